@@ -1,0 +1,5 @@
+pub mod Bytes
+pub mod Names
+pub mod Map
+pub mod Kinds
+pub mod Refusals
