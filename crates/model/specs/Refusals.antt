@@ -24,3 +24,31 @@ refusalNumber BadPosition = 0x4D
 refusalNumber EndOfFile = 0x4C
 refusalNumber DirectoryFull = 0x49
 refusalNumber NoRoom = 0x48
+
+-- A row of the table: when it applies, and its number.
+pub record Row : Type 0 where
+  pub applies : Bool
+  pub number : ℕ
+
+abbrev pub row : Bool → ℕ → Row
+row t k = record { applies = t; number = k }
+
+-- "The first that applies is given": 0 where none does
+unfoldable pub first : List Row → ℕ
+first [] = 0
+first (r ∷ rs) = elim (r .applies) [ true ↦ r .number | false ↦ first rs ]
+
+-- What a call leaves: its number (0 where it is not refused), the other parts of its answer, and the image.
+pub record Outcome (P : Type 0) : Type 0 where
+  pub number : ℕ
+  pub parts : P
+  pub image : Bytes
+
+-- With the number k: what is new where k is 0, else what was there and the parts of a refused answer.
+unfoldable pub settle : {P : Type 0} → ℕ → P → Bytes → P → Bytes → Outcome P
+settle k refused old done new =
+    record {
+    number = k;
+    parts = elim (eqb k 0) [ true ↦ done | false ↦ refused ];
+    image = elim (eqb k 0) [ true ↦ new | false ↦ old ]
+    }

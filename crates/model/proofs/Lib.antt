@@ -1,0 +1,4 @@
+pub mod Computing
+pub mod RefusalLaws
+pub mod Cases
+pub mod Traps
