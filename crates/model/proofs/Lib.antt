@@ -1,1 +1,2 @@
+-- The laws that the proofs of every crate may cite.
 pub mod ByteLaws
