@@ -23,17 +23,20 @@ cast-high : tie.Need-cast-high
 cast-high c = omega (arith, c .shared-slice-known2 .given (c .before .before .args .at + 1))
 
 mul-result : tie.Need-mul-result
-mul-result c = omega (arith, c .shared-slice-known2 .given (c .before .before .args .at + 1), c .before .shared-slice-known .given (c .before .before .args .at))
+mul-result c =
+    let a = c .before .before .args .at in
+    omega (arith, c .shared-slice-known2 .given (a + 1), c .before .shared-slice-known .given a)
 
 add-result : tie.Need-add-result
-add-result c = omega (arith, c .shared-slice-known2 .given (c .before .before .args .at + 1), c .before .shared-slice-known .given (c .before .before .args .at))
+add-result c =
+    let a = c .before .before .args .at in
+    omega (arith, c .shared-slice-known2 .given (a + 1), c .before .shared-slice-known .given a)
 
 returns : tie.Need-returns
 unfolding word
-returns c = (
-  refl,
-  omega (arith, c .shared-slice-known2 .given (c .before .before .args .at + 1), c .before .shared-slice-known .given (c .before .before .args .at)),
-)
+returns c =
+    let a = c .before .before .args .at in
+    (refl, omega (arith, c .shared-slice-known2 .given (a + 1), c .before .shared-slice-known .given a))
 
 pub get-word-spec : {M : Type 1} → statement M
 get-word-spec =

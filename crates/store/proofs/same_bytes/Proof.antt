@@ -32,8 +32,9 @@ shared-slice-read-if1-2 c = search needs
 
 returns : tie.Need-returns Inv-loop μ-loop
 returns c =
-    let a = c .before .before .before .before .before .args in
-    sym (equal-not (view (a .f .now)) (a .a) (view (a .g .now)) (a .b) (a .k) (c .before .before .before .before .loop .same) (omega arith) (λ e. omega arith))
+    let l = c .before .before .before .before in
+    let a = l .before .args in
+    sym (equal-not (view (a .f .now)) (a .a) (view (a .g .now)) (a .b) (a .k) (l .loop .same) (omega arith) (λ e. omega arith))
 
 add-same : tie.Need-add-same Inv-loop μ-loop
 add-same c = search needs
