@@ -1,4 +1,6 @@
-pub mod Computing
+-- The laws that the proofs of every crate may cite, and the tables of worked cases and traps.
+pub mod ByteLaws
 pub mod RefusalLaws
+pub mod Computing
 pub mod Cases
 pub mod Traps
