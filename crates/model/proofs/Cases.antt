@@ -20,7 +20,6 @@ use Rattle.model.specs.declared.Stamp.{Stamp}
 use Rattle.model.proofs.Computing.{computing}
 
 infix 45 _says_
-
 -- A row: what is computed, and what document 01 says.
 abbrev pub _says_ : ℕ → ℕ → Bool
 x says y = eqb x y

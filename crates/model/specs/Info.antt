@@ -45,28 +45,28 @@ created v s = stampAt v (at s + 0x18)
 unfoldable pub entryInfo : Bytes → ℕ → Info
 entryInfo v s =
     record {
-    kind = v (at s) / 16;
-    ftype = ftype v s;
-    access = access v s;
-    aux = word v (at s + 0x1F);
-    used = used v s;
-    eof = eof v s;
-    created = created v s;
-    modified = stampAt v (at s + 0x21)
+      kind = v (at s) / 16;
+      ftype = ftype v s;
+      access = access v s;
+      aux = word v (at s + 0x1F);
+      used = used v s;
+      eof = eof v s;
+      created = created v s;
+      modified = stampAt v (at s + 0x21);
     }
 
 -- "for the volume kind $F, type $0F, aux total, used total minus free, EOF 2,048, creation stamp twice"
 unfoldable pub volumeInfo : ℕ → Bytes → Info
 volumeInfo n v =
     record {
-    kind = 0xF;
-    ftype = ftype v volume;
-    access = access v volume;
-    aux = n;
-    used = n - room (mapBlock v) v n;
-    eof = eof v volume;
-    created = created v volume;
-    modified = created v volume
+      kind = 0xF;
+      ftype = ftype v volume;
+      access = access v volume;
+      aux = n;
+      used = n - room (mapBlock v) v n;
+      eof = eof v volume;
+      created = created v volume;
+      modified = created v volume;
     }
 
 unfoldable pub info : ℕ → Bytes → ℕ → Info

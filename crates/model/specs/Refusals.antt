@@ -48,7 +48,7 @@ pub record Outcome (P : Type 0) : Type 0 where
 unfoldable pub settle : {P : Type 0} → ℕ → P → Bytes → P → Bytes → Outcome P
 settle k refused old done new =
     record {
-    number = k;
-    parts = elim (eqb k 0) [ true ↦ done | false ↦ refused ];
-    image = elim (eqb k 0) [ true ↦ new | false ↦ old ]
+      number = k;
+      parts = elim (eqb k 0) [ true ↦ done | false ↦ refused ];
+      image = elim (eqb k 0) [ true ↦ new | false ↦ old ];
     }
