@@ -1,0 +1,317 @@
+-- Laws of the map: a byte's bits, blocks given and taken, how many are free, the first free one, the map of a new volume. Assumes nothing.
+use Prim.Native.Nat.{ℕ, zero, suc, _+_, _-_, _*_, _^_, _≤_, _<_, _/_, _%_}
+use mathlib.Core.Path.{_≡_, refl, sym, ap, _∙_}
+use mathlib.Core.Bool.{Bool, true, false, _&&_, false≢true}
+use lib.Dec.{leb, ltb, eqb}
+use native.Mathlib.Omega.{arith}
+use native.Mathlib.Nat.{zero-div}
+use borrow.Author.Tests.{eqb-true, eqb-false, eq-eqb, ne-eqb, leb-true, leb-false, le-leb, lt-leb, ltb-true, ltb-false, lt-ltb, le-ltb}
+use Rattle.model.specs.Bytes.{Bytes, Octets, is, one-if, put, clear, paste}
+use Rattle.model.specs.Map.{weight, bit, setBit, clearBit, mapAt, free, room, firstFree, lowest, taken, given}
+
+-- a test of every number below k
+tests : ℕ → (ℕ → Bool) → Bool
+tests zero p = true
+tests (suc k) p = p k && tests k p
+
+tests-at : (k : ℕ) (p : ℕ → Bool) → tests k p ≡ true → (i : ℕ) → i < k → p i ≡ true
+unfolding tests
+tests-at zero p h i l = absurd (omega arith)
+tests-at (suc k) p h i l = go (eqb i k) refl (p k) refl h (tests-at k p)
+  where
+    go : (b : Bool) → eqb i k ≡ b → (c : Bool) → p k ≡ c → (c && tests k p) ≡ true → (tests k p ≡ true → (i : ℕ) → i < k → p i ≡ true) → p i ≡ true
+    go true e true f g r = rw (eqb-true i k e) f
+    go false e true f g r = r g i (let q = eqb-false i k e in omega arith)
+    go b e false f g r = absurd (false≢true g)
+
+-- a test of every byte and two of its bits
+all : (ℕ → ℕ → ℕ → Bool) → Bool
+all f = tests 256 (λ x. tests 8 (λ i. tests 8 (λ j. f x i j)))
+
+all-at : (f : ℕ → ℕ → ℕ → Bool) → all f ≡ true → (x i j : ℕ) → x < 256 → i < 8 → j < 8 → f x i j ≡ true
+unfolding all
+all-at f h x i j p q r = tests-at 8 (λ j. f x i j) (tests-at 8 (λ i. tests 8 (λ j. f x i j)) (tests-at 256 (λ x. tests 8 (λ i. tests 8 (λ j. f x i j))) h x p) i q) j r
+
+set-test : ℕ → ℕ → ℕ → Bool
+set-test x i j = eqb (bit (setBit x i) j) (bit x j + is i j * (1 - bit x i))
+
+clear-test : ℕ → ℕ → ℕ → Bool
+clear-test x i j = eqb (bit (clearBit x i) j + is i j * bit x i) (bit x j)
+
+small-test : ℕ → ℕ → ℕ → Bool
+small-test x i j = ltb (setBit x i) 256
+
+set-all : all set-test ≡ true
+unfolding all tests set-test bit setBit weight
+set-all = refl
+
+clear-all : all clear-test ≡ true
+unfolding all tests clear-test bit clearBit weight
+clear-all = refl
+
+small-all : all small-test ≡ true
+unfolding all tests small-test bit setBit weight
+small-all = refl
+
+-- A byte's bits.
+pub bit-most : (x i : ℕ) → bit x i ≤ 1
+unfolding bit
+bit-most x i = omega arith
+
+pub bit-set : (x i j : ℕ) → x < 256 → i < 8 → j < 8 → bit (setBit x i) j ≡ bit x j + is i j * (1 - bit x i)
+unfolding set-test
+bit-set x i j h k l = eqb-true _ _ (all-at set-test set-all x i j h k l)
+
+pub bit-clear : (x i j : ℕ) → x < 256 → i < 8 → j < 8 → bit (clearBit x i) j + is i j * bit x i ≡ bit x j
+unfolding clear-test
+bit-clear x i j h k l = eqb-true _ _ (all-at clear-test clear-all x i j h k l)
+
+pub set-byte : (x i : ℕ) → x < 256 → i < 8 → setBit x i < 256
+unfolding small-test
+set-byte x i h k = ltb-true _ _ (all-at small-test small-all x i 0 h k (omega arith))
+
+pub clear-le : (x i : ℕ) → clearBit x i ≤ x
+unfolding clearBit
+clear-le x i = omega arith
+
+-- Two numbers are the same or not.
+pub is-yes : (a b : ℕ) → a ≡ b → is a b ≡ 1
+is-yes a b e = rw (eq-eqb a b e) refl
+
+pub is-no : (a b : ℕ) → (a ≡ b → ⊥) → is a b ≡ 0
+is-no a b h = rw (ne-eqb a b h) refl
+
+pub is-both : (a b c d : ℕ) → (a ≡ b → c ≡ d) → (c ≡ d → a ≡ b) → is a b ≡ is c d
+is-both a b c d f g = go (eqb a b) refl
+  where
+    go : (t : Bool) → eqb a b ≡ t → one-if t ≡ is c d
+    go true e = sym (is-yes c d (f (eqb-true a b e)))
+    go false e = sym (is-no c d (λ h. eqb-false a b e (g h)))
+
+pub is-most : (a b : ℕ) → is a b ≤ 1
+is-most a b = go (eqb a b)
+  where
+    go : (t : Bool) → one-if t ≤ 1
+    go true = omega arith
+    go false = omega arith
+
+-- The map's addresses.
+pub mapAt-inj : (m b c : ℕ) → mapAt m b ≡ mapAt m c → b / 8 ≡ c / 8
+unfolding mapAt
+mapAt-inj m b c e = omega arith
+
+pub mapAt-same : (m b c : ℕ) → b / 8 ≡ c / 8 → mapAt m b ≡ mapAt m c
+unfolding mapAt
+mapAt-same m b c e = omega arith
+
+pub free-most : (m : ℕ) (v : Bytes) (b : ℕ) → free m v b ≤ 1
+unfolding free
+free-most m v b = bit-most (v (mapAt m b)) (b % 8)
+
+pub free-same : (m : ℕ) (v w : Bytes) (b : ℕ) → w (mapAt m b) ≡ v (mapAt m b) → free m w b ≡ free m v b
+unfolding free
+free-same m v w b e = rw e refl
+
+-- Two maps that differ in the byte of block y: there the bits of w are those of v, and d more at y's.
+module _ (m : ℕ) (v w : Bytes) (y d : ℕ) (b : ℕ) where
+  pub free-flip
+    : bit (w (mapAt m y)) (b % 8) ≡ bit (v (mapAt m y)) (b % 8) + is (y % 8) (b % 8) * d
+    → ((mapAt m b ≡ mapAt m y → ⊥) → w (mapAt m b) ≡ v (mapAt m b)) → free m w b ≡ free m v b + is y b * d
+  unfolding free
+  free-flip law out = go (eqb (b / 8) (y / 8)) refl
+    where
+      go : (t : Bool) → eqb (b / 8) (y / 8) ≡ t → bit (w (mapAt m b)) (b % 8) ≡ bit (v (mapAt m b)) (b % 8) + is y b * d
+      go true e =
+        let q = eqb-true (b / 8) (y / 8) e in
+        rw (mapAt-same m b y q, law, is-both y b (y % 8) (b % 8) (λ p. ap (λ (x : ℕ). x % 8) p) (λ p. omega arith)) refl
+      go false e =
+        let q = eqb-false (b / 8) (y / 8) e in
+        rw (out (λ r. q (mapAt-inj m b y r)), is-no y b (λ p. q (ap (λ (x : ℕ). x / 8) (sym p)))) (omega arith)
+
+-- The number of free blocks.
+pub room-same : (m : ℕ) (v w : Bytes) (n : ℕ) → ((b : ℕ) → b < n → free m w b ≡ free m v b) → room m w n ≡ room m v n
+unfolding room
+room-same m v w zero f = refl
+room-same m v w (suc n) f = rw (room-same m v w n (λ b h. f b (omega arith)), f n (omega arith)) refl
+
+pub room-le : (m : ℕ) (v : Bytes) (n : ℕ) → room m v n ≤ n
+unfolding room
+room-le m v zero = omega arith
+room-le m v (suc n) = omega (arith, room-le m v n, free-most m v n)
+
+-- one block's bit differs by d
+pub room-one : (m : ℕ) (v w : Bytes) (y d n : ℕ) → ((b : ℕ) → b < n → free m w b ≡ free m v b + is y b * d) → y < n → room m w n ≡ room m v n + d
+unfolding room
+room-one m v w y d zero f h = absurd (omega arith)
+room-one m v w y d (suc n) f h = go (eqb y n) refl (λ k. room-one m v w y d n (λ b l. f b (omega arith)) k)
+  where
+    go : (t : Bool) → eqb y n ≡ t → (y < n → room m w n ≡ room m v n + d) → room m w n + free m w n ≡ room m v n + free m v n + d
+    go true e r =
+      let q = eqb-true y n e in
+      let s = room-same m v w n (λ b k. rw (f b (omega arith), is-no y b (λ p. omega arith)) (omega arith)) in
+      rw (s, f n (omega arith), is-yes y n q) (omega arith)
+    go false e r =
+      let q = eqb-false y n e in
+      rw (r (omega arith), f n (omega arith), is-no y n q) (omega arith)
+
+pub room-none : (m : ℕ) (v : Bytes) (n : ℕ) → ((b : ℕ) → b < n → free m v b ≡ 0) → room m v n ≡ 0
+unfolding room
+room-none m v zero f = refl
+room-none m v (suc n) f = rw (room-none m v n (λ b h. f b (omega arith)), f n (omega arith)) refl
+
+pub room-some : (m : ℕ) (v : Bytes) (n b : ℕ) → b < n → free m v b ≡ 1 → 1 ≤ room m v n
+unfolding room
+room-some m v zero b h e = absurd (omega arith)
+room-some m v (suc n) b h e = go (eqb b n) refl (λ k. room-some m v n b k e)
+  where
+    go : (t : Bool) → eqb b n ≡ t → (b < n → 1 ≤ room m v n) → 1 ≤ room m v n + free m v n
+    go true q r = omega (arith, ap (free m v) (eqb-true b n q))
+    go false q r = let p = eqb-false b n q in omega (arith, r (omega arith))
+
+-- The first free block.
+pub first-none : (m : ℕ) (v : Bytes) (b k : ℕ) → k ≤ 0 → firstFree m v b k ≡ b
+unfolding firstFree
+first-none m v b zero h = refl
+first-none m v b (suc k) h = absurd (omega arith)
+
+pub first-here : (m : ℕ) (v : Bytes) (b k : ℕ) → free m v b ≡ 1 → firstFree m v b k ≡ b
+unfolding firstFree
+first-here m v b zero e = refl
+first-here m v b (suc k) e = rw (eq-eqb (free m v b) 1 e, firstFree)
+
+pub first-step : (m : ℕ) (v : Bytes) (b k : ℕ) → (free m v b ≡ 1 → ⊥) → firstFree m v b (suc k) ≡ firstFree m v (b + 1) k
+unfolding firstFree
+first-step m v b k h = rw (ne-eqb (free m v b) 1 h, firstFree)
+
+-- what makes r the first free one of the k blocks from b on, or b + k
+pub record First (m : ℕ) (v : Bytes) (b k r : ℕ) : Type 0 where
+  pub from : b ≤ r
+  pub most : r ≤ b + k
+  pub found : r < b + k → free m v r ≡ 1
+  pub below : (c : ℕ) → b ≤ c → c < r → free m v c ≡ 0
+
+pub first-is : (m : ℕ) (v : Bytes) (b k : ℕ) → First m v b k (firstFree m v b k)
+first-is m v b zero =
+  rw (first-none m v b 0 (omega arith))
+  (record { from = omega arith; most = omega arith; found = λ h. absurd (omega arith); below = λ c g h. absurd (omega arith) })
+first-is m v b (suc k) = go (eqb (free m v b) 1) refl (first-is m v (b + 1) k)
+  where
+    low : {r : ℕ} → (free m v b ≡ 1 → ⊥) → First m v (b + 1) k r → (c : ℕ) → b ≤ c → c < r → free m v c ≡ 0
+    low {r} q f c g h = at (eqb c b) refl
+      where
+        at : (t : Bool) → eqb c b ≡ t → free m v c ≡ 0
+        at true e = rw (eqb-true c b e) (omega (arith, free-most m v b))
+        at false e = let n = eqb-false c b e in f .below c (omega arith) h
+    go : (t : Bool) → eqb (free m v b) 1 ≡ t → First m v (b + 1) k (firstFree m v (b + 1) k) → First m v b (suc k) (firstFree m v b (suc k))
+    go true e f =
+      let q = eqb-true (free m v b) 1 e in
+      rw (first-here m v b (suc k) q)
+      (record { from = omega arith; most = omega arith; found = λ h. q; below = λ c g h. absurd (omega arith) })
+    go false e f =
+      let q = eqb-false (free m v b) 1 e in
+      rw (first-step m v b k q)
+      (record { from = omega arith; most = omega arith; found = λ h. f .found (omega arith); below = low q f })
+
+pub first-one : (m : ℕ) (v : Bytes) (b k r s : ℕ) → First m v b k r → First m v b k s → r ≡ s
+first-one m v b k r s f g = go (ltb r s) refl (ltb s r) refl
+  where
+    go : (t : Bool) → ltb r s ≡ t → (u : Bool) → ltb s r ≡ u → r ≡ s
+    go true p u q = let l = ltb-true r s p in absurd (omega (arith, f .found (omega arith), g .below r (f .from) l))
+    go false p true q = let l = ltb-true s r q in absurd (omega (arith, g .found (omega arith), f .below s (g .from) l))
+    go false p false q = omega (arith, ltb-false r s p, ltb-false s r q)
+
+-- The lowest free block, and where a search for it may start.
+pub lowest-from : (m : ℕ) (v : Bytes) (n h : ℕ) → h ≤ n → ((c : ℕ) → c < h → free m v c ≡ 0) → lowest m v n ≡ firstFree m v h (n - h)
+unfolding lowest
+lowest-from m v n h l f =
+  let g = first-is m v h (n - h) in
+  first-one m v 0 n _ _ (first-is m v 0 n)
+  (record { from = omega arith; most = omega arith; found = λ k. g .found (omega arith); below = below })
+  where
+    below : (c : ℕ) → 0 ≤ c → c < firstFree m v h (n - h) → free m v c ≡ 0
+    below c z k = at (ltb c h) refl
+      where
+        at : (t : Bool) → ltb c h ≡ t → free m v c ≡ 0
+        at true e = f c (ltb-true c h e)
+        at false e = first-is m v h (n - h) .below c (ltb-false c h e) k
+
+pub lowest-most : (m : ℕ) (v : Bytes) (n : ℕ) → lowest m v n ≤ n
+unfolding lowest
+lowest-most m v n = omega (arith, first-is m v 0 n .most)
+
+pub lowest-free : (m : ℕ) (v : Bytes) (n : ℕ) → lowest m v n < n → free m v (lowest m v n) ≡ 1
+unfolding lowest
+lowest-free m v n h = first-is m v 0 n .found (omega arith)
+
+pub lowest-below : (m : ℕ) (v : Bytes) (n c : ℕ) → c < lowest m v n → free m v c ≡ 0
+unfolding lowest
+lowest-below m v n c h = first-is m v 0 n .below c (omega arith) h
+
+pub lowest-room : (m : ℕ) (v : Bytes) (n : ℕ) → lowest m v n < n → 1 ≤ room m v n
+lowest-room m v n h = room-some m v n (lowest m v n) h (lowest-free m v n h)
+
+pub room-lowest : (m : ℕ) (v : Bytes) (n : ℕ) → 1 ≤ room m v n → lowest m v n < n
+room-lowest m v n h = go (ltb (lowest m v n) n) refl
+  where
+    go : (t : Bool) → ltb (lowest m v n) n ≡ t → lowest m v n < n
+    go true e = ltb-true (lowest m v n) n e
+    go false e =
+      let l = ltb-false (lowest m v n) n e in
+      absurd (omega (arith, room-none m v n (λ b k. lowest-below m v n b (omega arith))))
+
+-- A whole byte's blocks.
+pub bit-zero : (i : ℕ) → bit 0 i ≡ 0
+unfolding bit
+bit-zero i = rw (zero-div (weight i)) refl
+
+pub zero-free : (m : ℕ) (v : Bytes) (b : ℕ) → v (mapAt m b) ≡ 0 → free m v b ≡ 0
+unfolding free
+zero-free m v b e = rw e (bit-zero (b % 8))
+
+-- A byte made of bits.
+byteOf : (ℕ → ℕ) → ℕ → ℕ
+byteOf c zero = 0
+byteOf c (suc i) = byteOf c i + c i * weight i
+
+below-eight : (P : ℕ → Type 0) → P 0 → P 1 → P 2 → P 3 → P 4 → P 5 → P 6 → P 7 → (i : ℕ) → i < 8 → P i
+below-eight P p q r s t u v w zero h = p
+below-eight P p q r s t u v w (suc zero) h = q
+below-eight P p q r s t u v w (suc (suc zero)) h = r
+below-eight P p q r s t u v w (suc (suc (suc zero))) h = s
+below-eight P p q r s t u v w (suc (suc (suc (suc zero)))) h = t
+below-eight P p q r s t u v w (suc (suc (suc (suc (suc zero))))) h = u
+below-eight P p q r s t u v w (suc (suc (suc (suc (suc (suc zero)))))) h = v
+below-eight P p q r s t u v w (suc (suc (suc (suc (suc (suc (suc zero))))))) h = w
+below-eight P p q r s t u v w (suc (suc (suc (suc (suc (suc (suc (suc i)))))))) h = absurd (omega arith)
+
+module _ (c : ℕ → ℕ) (most : (i : ℕ) → c i ≤ 1) where
+  bit-of : (i : ℕ) → i < 8 → bit (byteOf c 8) i ≡ c i
+  unfolding byteOf bit weight
+  bit-of =
+    let p = most 0 in
+    let q = most 1 in
+    let r = most 2 in
+    let s = most 3 in
+    let t = most 4 in
+    let u = most 5 in
+    let v = most 6 in
+    let w = most 7 in
+    below-eight (λ i. bit (byteOf c 8) i ≡ c i)
+    (omega arith) (omega arith) (omega arith) (omega arith) (omega arith) (omega arith) (omega arith) (omega arith)
+
+  byte-of : byteOf c 8 < 256
+  unfolding byteOf weight
+  byte-of = omega (arith, most 0, most 1, most 2, most 3, most 4, most 5, most 6, most 7)
+
+-- the low bits of a byte that has only high ones
+byte-low : (c : ℕ → ℕ) (r : ℕ) → r < 8 → byteOf c r % 2 ^ (8 - r) ≡ 0
+unfolding byteOf weight
+byte-low c = below-eight (λ r. byteOf c r % 2 ^ (8 - r) ≡ 0)
+  (omega arith) (omega arith) (omega arith) (omega arith) (omega arith) (omega arith) (omega arith) (omega arith)
+
+byte-stop : (c : ℕ → ℕ) (r j : ℕ) → ((i : ℕ) → r ≤ i → c i ≡ 0) → byteOf c (r + j) ≡ byteOf c r
+unfolding byteOf
+byte-stop c r zero f = let e : r + 0 ≡ r = omega arith in rw e refl
+byte-stop c r (suc j) f =
+  let e : r + suc j ≡ suc (r + j) = omega arith in
+  rw (e, byteOf, f (r + j) (omega arith)) (omega (arith, byte-stop c r j f))

@@ -1,0 +1,2 @@
+-- The laws of the model's definitions, for the proofs of every crate.
+pub mod BitLaws
