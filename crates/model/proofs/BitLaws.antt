@@ -6,8 +6,9 @@ use lib.Dec.{leb, ltb, eqb}
 use native.Mathlib.Omega.{arith}
 use native.Mathlib.Nat.{zero-div}
 use borrow.Author.Tests.{eqb-true, eqb-false, eq-eqb, ne-eqb, leb-true, leb-false, le-leb, lt-leb, ltb-true, ltb-false, lt-ltb, le-ltb}
-use Rattle.model.specs.Bytes.{Bytes, Octets, is, one-if, put, clear, paste}
-use Rattle.model.specs.Map.{weight, bit, setBit, clearBit, mapAt, free, room, firstFree, lowest, taken, given}
+use Rattle.model.specs.Bytes.{Bytes, Octets, is, one-if, put, clear, paste, _and_, _or_}
+use Rattle.model.specs.Map.{mapBlocks, weight, bit, setBit, clearBit, mapAt, free, room, firstFree, lowest, taken, given, allZero, restClear, freshBits, freshMap}
+use Rattle.model.proofs.ByteLaws.{put-at, put-off, clear-in, clear-out}
 
 -- a test of every number below k
 tests : ℕ → (ℕ → Bool) → Bool
@@ -127,6 +128,44 @@ module _ (m : ℕ) (v w : Bytes) (y d : ℕ) (b : ℕ) where
       go false e =
         let q = eqb-false (b / 8) (y / 8) e in
         rw (out (λ r. q (mapAt-inj m b y r)), is-no y b (λ p. q (ap (λ (x : ℕ). x / 8) (sym p)))) (omega arith)
+
+-- A block given back.
+pub given-out : (m : ℕ) (v : Bytes) (y i : ℕ) → (i ≡ mapAt m y → ⊥) → given m v y i ≡ v i
+unfolding given
+given-out m v y i h = put-off v (mapAt m y) _ i h
+
+pub given-at : (m : ℕ) (v : Bytes) (y : ℕ) → given m v y (mapAt m y) ≡ setBit (v (mapAt m y)) (y % 8)
+unfolding given
+given-at m v y = put-at v (mapAt m y) _
+
+pub given-free : (m : ℕ) (v : Bytes) (y b : ℕ) → Octets v → free m (given m v y) b ≡ free m v b + is y b * (1 - free m v y)
+unfolding free
+given-free m v y b o =
+  free-flip m v (given m v y) y (1 - free m v y) b
+  (rw (given-at m v y) (bit-set (v (mapAt m y)) (y % 8) (b % 8) (o (mapAt m y)) (omega arith) (omega arith)))
+  (given-out m v y (mapAt m b))
+
+-- A block taken.
+pub taken-in : (m : ℕ) (v : Bytes) (z i : ℕ) → z * 512 ≤ i → i < z * 512 + 512 → taken m v z i ≡ 0
+unfolding taken
+taken-in m v z i h l = clear-in _ (z * 512) 512 i h l
+
+pub taken-out : (m : ℕ) (v : Bytes) (z i : ℕ) → (z * 512 ≤ i → i < z * 512 + 512 → ⊥) → (i ≡ mapAt m z → ⊥) → taken m v z i ≡ v i
+unfolding taken
+taken-out m v z i h k = clear-out _ (z * 512) 512 i h ∙ put-off v (mapAt m z) _ i k
+
+pub taken-at : (m : ℕ) (v : Bytes) (z : ℕ) → (z * 512 ≤ mapAt m z → mapAt m z < z * 512 + 512 → ⊥)
+  → taken m v z (mapAt m z) ≡ clearBit (v (mapAt m z)) (z % 8)
+unfolding taken
+taken-at m v z h = clear-out _ (z * 512) 512 (mapAt m z) h ∙ put-at v (mapAt m z) _
+
+pub taken-free : (m : ℕ) (v : Bytes) (z b : ℕ) → Octets v → (z * 512 ≤ mapAt m b → mapAt m b < z * 512 + 512 → ⊥)
+  → free m (taken m v z) b + is z b * free m v z ≡ free m v b
+unfolding free
+taken-free m v z b o h =
+  sym (free-flip m (taken m v z) v z (free m v z) b
+  ?
+  (λ k. sym (taken-out m v z (mapAt m b) h k)))
 
 -- The number of free blocks.
 pub room-same : (m : ℕ) (v w : Bytes) (n : ℕ) → ((b : ℕ) → b < n → free m w b ≡ free m v b) → room m w n ≡ room m v n
@@ -315,3 +354,8 @@ byte-stop c r zero f = let e : r + 0 ≡ r = omega arith in rw e refl
 byte-stop c r (suc j) f =
   let e : r + suc j ≡ suc (r + j) = omega arith in
   rw (e, byteOf, f (r + j) (omega arith)) (omega (arith, byte-stop c r j f))
+
+-- The map of a new volume.
+fresh : ℕ → ℕ → ℕ → ℕ
+fresh a n b = one-if (leb a b and ltb b n)
+
