@@ -1,2 +1,3 @@
 -- The laws of the model's definitions, for the proofs of every crate.
+pub mod ByteLaws
 pub mod BitLaws
