@@ -8,7 +8,7 @@ use native.Mathlib.Nat.{zero-div}
 use borrow.Author.Tests.{eqb-true, eqb-false, eq-eqb, ne-eqb, leb-true, leb-false, le-leb, lt-leb, ltb-true, ltb-false, lt-ltb, le-ltb}
 use Rattle.model.specs.Bytes.{Bytes, Octets, is, one-if, put, clear, paste, _and_, _or_}
 use Rattle.model.specs.Map.{mapBlocks, weight, bit, setBit, clearBit, mapAt, free, room, firstFree, lowest, taken, given, allZero, restClear, freshBits, freshMap}
-use Rattle.model.proofs.ByteLaws.{put-at, put-off, clear-in, clear-out}
+use Rattle.model.proofs.ByteLaws.{put-at, put-off, clear-in, clear-out, octets-put, octets-clear}
 
 -- a test of every number below k
 tests : ℕ → (ℕ → Bool) → Bool
@@ -105,6 +105,11 @@ pub mapAt-same : (m b c : ℕ) → b / 8 ≡ c / 8 → mapAt m b ≡ mapAt m c
 unfolding mapAt
 mapAt-same m b c e = omega arith
 
+-- a block's byte lies in the map
+pub mapAt-in : (m n b : ℕ) → b < n → mapAt m b < m * 512 + mapBlocks n * 512
+unfolding mapAt mapBlocks
+mapAt-in m n b h = omega arith
+
 pub free-most : (m : ℕ) (v : Bytes) (b : ℕ) → free m v b ≤ 1
 unfolding free
 free-most m v b = bit-most (v (mapAt m b)) (b % 8)
@@ -116,7 +121,7 @@ free-same m v w b e = rw e refl
 -- Two maps that differ in the byte of block y: there the bits of w are those of v, and d more at y's.
 module _ (m : ℕ) (v w : Bytes) (y d : ℕ) (b : ℕ) where
   pub free-flip
-    : bit (w (mapAt m y)) (b % 8) ≡ bit (v (mapAt m y)) (b % 8) + is (y % 8) (b % 8) * d
+    : (mapAt m b ≡ mapAt m y → bit (w (mapAt m y)) (b % 8) ≡ bit (v (mapAt m y)) (b % 8) + is (y % 8) (b % 8) * d)
     → ((mapAt m b ≡ mapAt m y → ⊥) → w (mapAt m b) ≡ v (mapAt m b)) → free m w b ≡ free m v b + is y b * d
   unfolding free
   free-flip law out = go (eqb (b / 8) (y / 8)) refl
@@ -124,7 +129,8 @@ module _ (m : ℕ) (v w : Bytes) (y d : ℕ) (b : ℕ) where
       go : (t : Bool) → eqb (b / 8) (y / 8) ≡ t → bit (w (mapAt m b)) (b % 8) ≡ bit (v (mapAt m b)) (b % 8) + is y b * d
       go true e =
         let q = eqb-true (b / 8) (y / 8) e in
-        rw (mapAt-same m b y q, law, is-both y b (y % 8) (b % 8) (λ p. ap (λ (x : ℕ). x % 8) p) (λ p. omega arith)) refl
+        let a = mapAt-same m b y q in
+        rw (a, law a, is-both y b (y % 8) (b % 8) (λ p. ap (λ (x : ℕ). x % 8) p) (λ p. omega arith)) refl
       go false e =
         let q = eqb-false (b / 8) (y / 8) e in
         rw (out (λ r. q (mapAt-inj m b y r)), is-no y b (λ p. q (ap (λ (x : ℕ). x / 8) (sym p)))) (omega arith)
@@ -142,8 +148,12 @@ pub given-free : (m : ℕ) (v : Bytes) (y b : ℕ) → Octets v → free m (give
 unfolding free
 given-free m v y b o =
   free-flip m v (given m v y) y (1 - free m v y) b
-  (rw (given-at m v y) (bit-set (v (mapAt m y)) (y % 8) (b % 8) (o (mapAt m y)) (omega arith) (omega arith)))
+  (λ a. rw (given-at m v y) (bit-set (v (mapAt m y)) (y % 8) (b % 8) (o (mapAt m y)) (omega arith) (omega arith)))
   (given-out m v y (mapAt m b))
+
+pub given-octets : (m : ℕ) (v : Bytes) (y : ℕ) → Octets v → Octets (given m v y)
+unfolding given
+given-octets m v y o = octets-put v (mapAt m y) _ o (set-byte (v (mapAt m y)) (y % 8) (o (mapAt m y)) (omega arith))
 
 -- A block taken.
 pub taken-in : (m : ℕ) (v : Bytes) (z i : ℕ) → z * 512 ≤ i → i < z * 512 + 512 → taken m v z i ≡ 0
@@ -164,8 +174,14 @@ pub taken-free : (m : ℕ) (v : Bytes) (z b : ℕ) → Octets v → (z * 512 ≤
 unfolding free
 taken-free m v z b o h =
   sym (free-flip m (taken m v z) v z (free m v z) b
-  ?
+  (λ a. rw (taken-at m v z (rw a at h)) (sym (bit-clear (v (mapAt m z)) (z % 8) (b % 8) (o (mapAt m z)) (omega arith) (omega arith))))
   (λ k. sym (taken-out m v z (mapAt m b) h k)))
+
+pub taken-octets : (m : ℕ) (v : Bytes) (z : ℕ) → Octets v → Octets (taken m v z)
+unfolding taken
+taken-octets m v z o =
+  octets-clear _ (z * 512) 512
+  (octets-put v (mapAt m z) _ o (omega (arith, o (mapAt m z), clear-le (v (mapAt m z)) (z % 8))))
 
 -- The number of free blocks.
 pub room-same : (m : ℕ) (v w : Bytes) (n : ℕ) → ((b : ℕ) → b < n → free m w b ≡ free m v b) → room m w n ≡ room m v n
@@ -206,6 +222,14 @@ room-some m v (suc n) b h e = go (eqb b n) refl (λ k. room-some m v n b k e)
     go : (t : Bool) → eqb b n ≡ t → (b < n → 1 ≤ room m v n) → 1 ≤ room m v n + free m v n
     go true q r = omega (arith, ap (free m v) (eqb-true b n q))
     go false q r = let p = eqb-false b n q in omega (arith, r (omega arith))
+
+pub room-given : (m : ℕ) (v : Bytes) (y n : ℕ) → Octets v → y < n → room m (given m v y) n ≡ room m v n + (1 - free m v y)
+room-given m v y n o h = room-one m v (given m v y) y (1 - free m v y) n (λ b l. given-free m v y b o) h
+
+pub room-taken : (m : ℕ) (v : Bytes) (z n : ℕ) → Octets v → z < n
+  → ((b : ℕ) → b < n → z * 512 ≤ mapAt m b → mapAt m b < z * 512 + 512 → ⊥) → room m (taken m v z) n + free m v z ≡ room m v n
+room-taken m v z n o h off =
+  sym (room-one m (taken m v z) v z (free m v z) n (λ b l. sym (taken-free m v z b o (off b l))) h)
 
 -- The first free block.
 pub first-none : (m : ℕ) (v : Bytes) (b k : ℕ) → k ≤ 0 → firstFree m v b k ≡ b
@@ -355,7 +379,77 @@ byte-stop c r (suc j) f =
   let e : r + suc j ≡ suc (r + j) = omega arith in
   rw (e, byteOf, f (r + j) (omega arith)) (omega (arith, byte-stop c r j f))
 
--- The map of a new volume.
-fresh : ℕ → ℕ → ℕ → ℕ
-fresh a n b = one-if (leb a b and ltb b n)
+-- The map of a new volume: the blocks from a to n - 1 are free.
+pub fresh-yes : (a n b : ℕ) → a ≤ b → b < n → one-if (leb a b and ltb b n) ≡ 1
+unfolding _and_
+fresh-yes a n b h l = rw (le-leb a b h, lt-ltb b n l) refl
 
+pub fresh-no : (a n b : ℕ) → (a ≤ b → b < n → ⊥) → one-if (leb a b and ltb b n) ≡ 0
+unfolding _and_
+fresh-no a n b h = go (leb a b) refl (ltb b n) refl
+  where
+    go : (t : Bool) → leb a b ≡ t → (u : Bool) → ltb b n ≡ u → one-if (t and u) ≡ 0
+    go true p true q = absurd (h (leb-true a b p) (ltb-true b n q))
+    go true p false q = refl
+    go false p u q = refl
+
+one-most : (t : Bool) → one-if t ≤ 1
+one-most true = omega arith
+one-most false = omega arith
+
+fresh : ℕ → ℕ → ℕ → ℕ → ℕ
+fresh a n b i = one-if (leb a (b + i) and ltb (b + i) n)
+
+fresh-bits : (a n b k : ℕ) → freshBits a n b k ≡ byteOf (fresh a n b) k
+unfolding freshBits byteOf fresh
+fresh-bits a n b zero = refl
+fresh-bits a n b (suc k) = rw (fresh-bits a n b k) refl
+
+fresh-most : (a n b i : ℕ) → fresh a n b i ≤ 1
+unfolding fresh
+fresh-most a n b i = one-most (leb a (b + i) and ltb (b + i) n)
+
+pub fresh-bit : (a n j i : ℕ) → i < 8 → bit (freshMap a n j) i ≡ one-if (leb a (j * 8 + i) and ltb (j * 8 + i) n)
+unfolding freshMap fresh
+fresh-bit a n j i h = rw (fresh-bits a n (j * 8) 8) (bit-of (fresh a n (j * 8)) (fresh-most a n (j * 8)) i h)
+
+pub fresh-byte : (a n j : ℕ) → freshMap a n j < 256
+unfolding freshMap
+fresh-byte a n j = rw (fresh-bits a n (j * 8) 8) (byte-of (fresh a n (j * 8)) (fresh-most a n (j * 8)))
+
+-- past the last block no bit is set
+pub fresh-zero : (a n j : ℕ) → n ≤ j * 8 → freshMap a n j ≡ 0
+unfolding freshMap fresh byteOf
+fresh-zero a n j h =
+  rw (fresh-bits a n (j * 8) 8)
+  (byte-stop (fresh a n (j * 8)) 0 8 (λ i l. fresh-no a n (j * 8 + i) (λ p q. omega arith)))
+
+pub fresh-low : (a n : ℕ) → freshMap a n (n / 8) % 2 ^ (8 - n % 8) ≡ 0
+unfolding freshMap fresh
+fresh-low a n =
+  let r = n % 8 in
+  let e : 8 ≡ r + (8 - r) = omega arith in
+  let s = byte-stop (fresh a n (n / 8 * 8)) r (8 - r) (λ i l. fresh-no a n (n / 8 * 8 + i) (λ p q. omega arith)) in
+  let t : byteOf (fresh a n (n / 8 * 8)) 8 ≡ byteOf (fresh a n (n / 8 * 8)) r = ap (byteOf (fresh a n (n / 8 * 8))) e ∙ s in
+  rw (fresh-bits a n (n / 8 * 8) 8, t) (byte-low (fresh a n (n / 8 * 8)) r (omega arith))
+
+module _ (a n m : ℕ) (v : Bytes) (b : ℕ) where
+  pub fresh-free : v (mapAt m b) ≡ freshMap a n (b / 8) → free m v b ≡ one-if (leb a b and ltb b n)
+  unfolding free
+  fresh-free e =
+    let p : b / 8 * 8 + b % 8 ≡ b = omega arith in
+    rw (e, fresh-bit a n (b / 8) (b % 8) (omega arith), p) refl
+
+pub fresh-room : (a n m : ℕ) (v : Bytes) → ((j : ℕ) → j * 8 < n → v (m * 512 + j) ≡ freshMap a n j) → room m v n ≡ n - a
+unfolding room mapAt
+fresh-room a n m v f = upto n (omega arith)
+  where
+    one : (b : ℕ) → b < n → free m v b ≡ b + 1 - a - (b - a)
+    one b h = go (leb a b) refl (fresh-free a n m v b (f (b / 8) (omega arith)))
+      where
+        go : (t : Bool) → leb a b ≡ t → free m v b ≡ one-if (leb a b and ltb b n) → free m v b ≡ b + 1 - a - (b - a)
+        go true p e = let l = leb-true a b p in rw (e, fresh-yes a n b l h) (omega arith)
+        go false p e = let l = leb-false a b p in rw (e, fresh-no a n b (λ q r. omega arith)) (omega arith)
+    upto : (k : ℕ) → k ≤ n → room m v k ≡ k - a
+    upto zero h = omega arith
+    upto (suc k) h = rw (upto k (omega arith), one k (omega arith)) (omega arith)
