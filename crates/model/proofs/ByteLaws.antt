@@ -64,6 +64,7 @@ paste-out f a k g i h = go (leb a i) refl
     end : (b : Bool) → ltb i (a + k) ≡ b → a ≤ i → elim b [ true ↦ g (i - a) | false ↦ f i ] ≡ f i
     end true e l = absurd (h l (ltb-true i (a + k) e))
     end false e l = refl
+
     go : (b : Bool) → leb a i ≡ b → elim b [ true ↦ elim (ltb i (a + k)) [ true ↦ g (i - a) | false ↦ f i ] | false ↦ f i ] ≡ f i
     go true e = end (ltb i (a + k)) refl (leb-true a i e)
     go false e = refl
@@ -102,10 +103,16 @@ paste-more f a g k = paste-by (put (paste f a k g) (a + k) (g k)) f a (k + 1) g 
     inside i l =
         at-or-off i k (λ e. rw e (put-at (paste f a k g) (a + k) (g k)))
         (λ n. put-off (paste f a k g) (a + k) (g k) (a + i) (λ e. n (omega arith)) ∙ paste-at f a k g i (omega (arith, n)))
+
     outside : (i : ℕ) → (a ≤ i → i < a + (k + 1) → ⊥) → put (paste f a k g) (a + k) (g k) i ≡ f i
     outside i n =
         put-off (paste f a k g) (a + k) (g k) i (λ e. n (omega arith) (omega arith))
         ∙ paste-out f a k g i (λ u v. n u (omega arith))
+
+pub paste-one : (f : Bytes) (a : ℕ) (g : Bytes) → put f a (g 0) ≡ paste f a 1 g
+paste-one f a g =
+    let e : a ≡ a + 0 = omega arith in
+    ap (λ b. put f b (g 0)) e ∙ ap (λ h. put h (a + 0) (g 0)) (sym (paste-none f a g)) ∙ paste-more f a g 0
 
 -- a byte, and a run, stored inside a run
 pub paste-put : (f : Bytes) (a k : ℕ) (g : Bytes) (i c : ℕ) → i < k → paste f a k (put g i c) ≡ put (paste f a k g) (a + i) c
@@ -116,6 +123,7 @@ paste-put f a k g i c h =
     inside j l =
         at-or-off j i (λ e. rw e (put-at (paste f a k g) (a + i) c ∙ sym (put-at g i c)))
         (λ n. put-off (paste f a k g) (a + i) c (a + j) (λ e. n (omega arith)) ∙ paste-at f a k g j l ∙ sym (put-off g i c j n))
+
     outside : (j : ℕ) → (a ≤ j → j < a + k → ⊥) → put (paste f a k g) (a + i) c j ≡ f j
     outside j n = put-off (paste f a k g) (a + i) c j (λ e. n (omega arith) (omega arith)) ∙ paste-out f a k g j n
 
@@ -127,6 +135,7 @@ paste-paste f a k g b m h l = paste-by (paste f a k (paste g b m h)) (paste f a 
     inside i u =
         let e : a + b + i ≡ a + (b + i) = omega arith in
         rw e (paste-at f a k (paste g b m h) (b + i) (omega arith) ∙ paste-at g b m h i u)
+
     outside : (i : ℕ) → (a + b ≤ i → i < a + b + m → ⊥) → paste f a k (paste g b m h) i ≡ paste f a k g i
     outside i n =
         in-or-out a k i
@@ -180,12 +189,15 @@ view-part xs ys a k fits len = paste-by (view whole) (view xs) a k (view ys) ins
   where
     whole : List ℕ
     whole = take a xs ++ (ys ++ drop k (drop a xs))
+
     front : length (take a xs) ≡ a
     front = length-take-le a xs (omega arith)
+
     inside : (i : ℕ) → i < k → view whole (a + i) ≡ view ys i
     inside i h =
         let e : a + i - a ≡ i = omega arith in
         past (take a xs) _ a (a + i) front (omega arith) ∙ rw e (List·getD-append ys _ 0 i (omega arith))
+
     after : (i : ℕ) → a + k ≤ i → view whole i ≡ view xs i
     after i h =
         let e : a + (k + (i - a - k)) ≡ i = omega arith in
@@ -194,8 +206,10 @@ view-part xs ys a k fits len = paste-by (view whole) (view xs) a k (view ys) ins
         ∙ getD-drop k (drop a xs) (i - a - k) 0
         ∙ getD-drop a xs (k + (i - a - k)) 0
         ∙ ap (view xs) e
+
     before : (i : ℕ) → i < a → view whole i ≡ view xs i
     before i h = List·getD-append (take a xs) _ 0 i (omega (arith, front)) ∙ getD-take a xs i 0 h
+
     outside : (i : ℕ) → (a ≤ i → i < a + k → ⊥) → view whole i ≡ view xs i
     outside i n = in-or-out 0 a i (λ u v. before i (omega arith)) (λ o. after i (omega (arith, o (omega arith), n (omega (arith, o (omega arith))))))
 
@@ -239,3 +253,200 @@ word-same f g a b p q = rw (p, q)
 pub long-same : (f g : Bytes) (a b : ℕ) → f a ≡ g b → f (a + 1) ≡ g (b + 1) → f (a + 2) ≡ g (b + 2) → long f a ≡ long g b
 unfolding long
 long-same f g a b p q r = rw (p, q, r)
+
+pub word-agree : (k : ℕ) (f g : Bytes) (a : ℕ) → Agree k f g → a + 1 < k → word f a ≡ word g a
+word-agree k f g a w h = word-same f g a a (w a (omega arith)) (w (a + 1) h)
+
+pub long-agree : (k : ℕ) (f g : Bytes) (a : ℕ) → Agree k f g → a + 2 < k → long f a ≡ long g a
+long-agree k f g a w h = long-same f g a a (w a (omega arith)) (w (a + 1) (omega arith)) (w (a + 2) h)
+
+pub word-from : (f : Bytes) (a i : ℕ) → word (from f a) i ≡ word f (a + i)
+word-from f a i = let e : a + (i + 1) ≡ a + i + 1 = omega arith in word-same (from f a) f i (a + i) refl (ap f e)
+
+pub long-from : (f : Bytes) (a i : ℕ) → long (from f a) i ≡ long f (a + i)
+long-from f a i =
+    let d : a + (i + 1) ≡ a + i + 1 = omega arith in
+    let e : a + (i + 2) ≡ a + i + 2 = omega arith in
+    long-same (from f a) f i (a + i) refl (ap f d) (ap f e)
+
+pub word-part : (xs : List ℕ) (a k i : ℕ) → i + 1 < k → word (view (take k (drop a xs))) i ≡ word (view xs) (a + i)
+word-part xs a k i h = word-agree k _ (from (view xs) a) i (agree-part xs a k) h ∙ word-from (view xs) a i
+
+pub long-part : (xs : List ℕ) (a k i : ℕ) → i + 2 < k → long (view (take k (drop a xs))) i ≡ long (view xs) (a + i)
+long-part xs a k i h = long-agree k _ (from (view xs) a) i (agree-part xs a k) h ∙ long-from (view xs) a i
+
+-- Numbers in a run, and beside a store. The refutation says that the bytes read are not those stored.
+module _ (f : Bytes) (a k : ℕ) (g : Bytes) (i : ℕ) where
+  pub word-paste : i + 1 < k → word (paste f a k g) (a + i) ≡ word g i
+  word-paste h = sym (word-from (paste f a k g) a i) ∙ word-agree k (from (paste f a k g) a) g i (paste-at f a k g) h
+
+  pub long-paste : i + 2 < k → long (paste f a k g) (a + i) ≡ long g i
+  long-paste h = sym (long-from (paste f a k g) a i) ∙ long-agree k (from (paste f a k g) a) g i (paste-at f a k g) h
+
+  pub word-paste-off : (a ≤ i + 1 → i < a + k → ⊥) → word (paste f a k g) i ≡ word f i
+  word-paste-off n =
+      word-same (paste f a k g) f i i (paste-out f a k g i (λ u v. n (omega arith) v)) (paste-out f a k g (i + 1) (λ u v. n u (omega arith)))
+
+  pub long-paste-off : (a ≤ i + 2 → i < a + k → ⊥) → long (paste f a k g) i ≡ long f i
+  long-paste-off n =
+      long-same (paste f a k g) f i i (paste-out f a k g i (λ u v. n (omega arith) v)) (paste-out f a k g (i + 1) (λ u v. n (omega arith) (omega arith)))
+      (paste-out f a k g (i + 2) (λ u v. n u (omega arith)))
+
+module _ (f : Bytes) (a c i : ℕ) where
+  pub word-put-off : (a ≤ i + 1 → i < a + 1 → ⊥) → word (put f a c) i ≡ word f i
+  word-put-off n =
+      word-same (put f a c) f i i (put-off f a c i (λ e. n (omega arith) (omega arith))) (put-off f a c (i + 1) (λ e. n (omega arith) (omega arith)))
+
+  pub long-put-off : (a ≤ i + 2 → i < a + 1 → ⊥) → long (put f a c) i ≡ long f i
+  long-put-off n =
+      long-same (put f a c) f i i (put-off f a c i (λ e. n (omega arith) (omega arith))) (put-off f a c (i + 1) (λ e. n (omega arith) (omega arith)))
+      (put-off f a c (i + 2) (λ e. n (omega arith) (omega arith)))
+
+module _ (f : Bytes) (a k i : ℕ) where
+  pub word-clear : i + 1 < k → word (clear f a k) (a + i) ≡ 0
+  unfolding clear word
+  word-clear h = word-paste f a k zeros i h
+
+  pub long-clear : i + 2 < k → long (clear f a k) (a + i) ≡ 0
+  unfolding clear long
+  long-clear h = long-paste f a k zeros i h
+
+  pub word-clear-off : (a ≤ i + 1 → i < a + k → ⊥) → word (clear f a k) i ≡ word f i
+  unfolding clear
+  word-clear-off n = word-paste-off f a k zeros i n
+
+  pub long-clear-off : (a ≤ i + 2 → i < a + k → ⊥) → long (clear f a k) i ≡ long f i
+  unfolding clear
+  long-clear-off n = long-paste-off f a k zeros i n
+
+-- Numbers stored.
+pub word-digit : (x : ℕ) → x < 65536 → word (digit x) 0 ≡ x
+unfolding word digit
+word-digit x h = omega arith
+
+pub long-digit : (x : ℕ) → x < 16777216 → long (digit x) 0 ≡ x
+unfolding long digit
+long-digit x h = omega arith
+
+module _ (f : Bytes) (a x : ℕ) where
+  pub putWord-at : (i : ℕ) → i < 2 → putWord f a x (a + i) ≡ digit x i
+  unfolding putWord
+  putWord-at i h = paste-at f a 2 (digit x) i h
+
+  pub putWord-out : (i : ℕ) → (a ≤ i → i < a + 2 → ⊥) → putWord f a x i ≡ f i
+  unfolding putWord
+  putWord-out i n = paste-out f a 2 (digit x) i n
+
+  pub putLong-at : (i : ℕ) → i < 3 → putLong f a x (a + i) ≡ digit x i
+  unfolding putLong
+  putLong-at i h = paste-at f a 3 (digit x) i h
+
+  pub putLong-out : (i : ℕ) → (a ≤ i → i < a + 3 → ⊥) → putLong f a x i ≡ f i
+  unfolding putLong
+  putLong-out i n = paste-out f a 3 (digit x) i n
+
+  pub word-putWord : x < 65536 → word (putWord f a x) a ≡ x
+  unfolding putWord
+  word-putWord h =
+      let e : a ≡ a + 0 = omega arith in
+      ap (word (paste f a 2 (digit x))) e ∙ word-paste f a 2 (digit x) 0 (omega arith) ∙ word-digit x h
+
+  pub long-putLong : x < 16777216 → long (putLong f a x) a ≡ x
+  unfolding putLong
+  long-putLong h =
+      let e : a ≡ a + 0 = omega arith in
+      ap (long (paste f a 3 (digit x))) e ∙ long-paste f a 3 (digit x) 0 (omega arith) ∙ long-digit x h
+
+  pub word-putWord-off : (i : ℕ) → (a ≤ i + 1 → i < a + 2 → ⊥) → word (putWord f a x) i ≡ word f i
+  unfolding putWord
+  word-putWord-off i n = word-paste-off f a 2 (digit x) i n
+
+  pub word-putLong-off : (i : ℕ) → (a ≤ i + 1 → i < a + 3 → ⊥) → word (putLong f a x) i ≡ word f i
+  unfolding putLong
+  word-putLong-off i n = word-paste-off f a 3 (digit x) i n
+
+  pub long-putWord-off : (i : ℕ) → (a ≤ i + 2 → i < a + 2 → ⊥) → long (putWord f a x) i ≡ long f i
+  unfolding putWord
+  long-putWord-off i n = long-paste-off f a 2 (digit x) i n
+
+  pub long-putLong-off : (i : ℕ) → (a ≤ i + 2 → i < a + 3 → ⊥) → long (putLong f a x) i ≡ long f i
+  unfolding putLong
+  long-putLong-off i n = long-paste-off f a 3 (digit x) i n
+
+  -- byte by byte
+  pub put-word : put (put f a (x % 256)) (a + 1) (x / 256 % 256) ≡ putWord f a x
+  unfolding putWord digit
+  put-word =
+      let e : x % 256 ≡ x / 1 % 256 = omega arith in
+      ap (λ c. put (put f a c) (a + 1) (x / 256 % 256)) e
+      ∙ ap (λ h. put h (a + 1) (x / 256 % 256)) (paste-one f a (digit x))
+      ∙ paste-more f a (digit x) 1
+
+  pub put-long : put (putWord f a x) (a + 2) (x / 65536 % 256) ≡ putLong f a x
+  unfolding putWord putLong digit
+  put-long = paste-more f a (digit x) 2
+
+  pub put-three : put (put (put f a (x % 256)) (a + 1) (x / 256 % 256)) (a + 2) (x / 65536 % 256) ≡ putLong f a x
+  put-three = ap (λ h. put h (a + 2) (x / 65536 % 256)) put-word ∙ put-long
+
+-- Runs compared. Equal means equal byte by byte.
+pub equal-at : (f : Bytes) (a : ℕ) (g : Bytes) (b k : ℕ) → equalBytes f a g b k ≡ true → (i : ℕ) → i < k → f (a + i) ≡ g (b + i)
+unfolding equalBytes
+equal-at f a g b zero e i h = absurd (omega arith)
+equal-at f a g b (suc k) e i h = go (eqb (f a) (g b)) refl e (equal-at f (a + 1) g (b + 1) k)
+  where
+    go : (t : Bool) → eqb (f a) (g b) ≡ t → elim t [ true ↦ equalBytes f (a + 1) g (b + 1) k | false ↦ false ] ≡ true
+        → (equalBytes f (a + 1) g (b + 1) k ≡ true → (i : ℕ) → i < k → f (a + 1 + i) ≡ g (b + 1 + i)) → f (a + i) ≡ g (b + i)
+    go false p q next = absurd (false≢true q)
+    go true p q next =
+        at-or-off i 0
+        (λ z. let u : a + i ≡ a = omega arith in let v : b + i ≡ b = omega arith in rw (u, v) (eqb-true (f a) (g b) p))
+        (λ n. let u : a + i ≡ a + 1 + (i - 1) = omega (arith, n) in let v : b + i ≡ b + 1 + (i - 1) = omega (arith, n) in
+        rw (u, v) (next q (i - 1) (omega (arith, n))))
+
+pub equal-all : (f : Bytes) (a : ℕ) (g : Bytes) (b k : ℕ) → ((i : ℕ) → i < k → f (a + i) ≡ g (b + i)) → equalBytes f a g b k ≡ true
+unfolding equalBytes
+equal-all f a g b zero h = refl
+equal-all f a g b (suc k) h =
+    let u : a ≡ a + 0 = omega arith in
+    let v : b ≡ b + 0 = omega arith in
+    let e : f a ≡ g b = ap f u ∙ h 0 (omega arith) ∙ ap g (sym v) in
+    rw (eq-eqb (f a) (g b) e, equalBytes) (equal-all f (a + 1) g (b + 1) k next)
+  where
+    next : (i : ℕ) → i < k → f (a + 1 + i) ≡ g (b + 1 + i)
+    next i l =
+        let u : a + 1 + i ≡ a + (i + 1) = omega arith in
+        let v : b + 1 + i ≡ b + (i + 1) = omega arith in
+        rw (u, v) (h (i + 1) (omega arith))
+
+pub equal-not : (f : Bytes) (a : ℕ) (g : Bytes) (b k i : ℕ) → i < k → (f (a + i) ≡ g (b + i) → ⊥) → equalBytes f a g b k ≡ false
+equal-not f a g b k i h n = go (equalBytes f a g b k) refl
+  where
+    go : (t : Bool) → equalBytes f a g b k ≡ t → t ≡ false
+    go true e = absurd (n (equal-at f a g b k e i h))
+    go false e = refl
+
+pub equal-cong : (f : Bytes) (a : ℕ) (g : Bytes) (b k : ℕ) (f′ : Bytes) (a′ : ℕ) (g′ : Bytes) (b′ : ℕ)
+    → Agree k (from f a) (from f′ a′) → Agree k (from g b) (from g′ b′) → equalBytes f a g b k ≡ equalBytes f′ a′ g′ b′ k
+equal-cong f a g b k f′ a′ g′ b′ p q = go (equalBytes f a g b k) (equalBytes f′ a′ g′ b′ k) refl refl
+  where
+    go : (s t : Bool) → equalBytes f a g b k ≡ s → equalBytes f′ a′ g′ b′ k ≡ t → s ≡ t
+    go true true d e = refl
+    go false false d e = refl
+    go true false d e = sym (equal-all f′ a′ g′ b′ k (λ i h. sym (p i h) ∙ equal-at f a g b k d i h ∙ q i h)) ∙ e
+    go false true d e = sym d ∙ equal-all f a g b k (λ i h. p i h ∙ equal-at f′ a′ g′ b′ k e i h ∙ sym (q i h))
+
+-- all zero is equal to zeros
+pub zero-equal : (f : Bytes) (a b k : ℕ) → allZero f a k ≡ equalBytes f a zeros b k
+unfolding allZero equalBytes
+zero-equal f a b zero = refl
+zero-equal f a b (suc k) = ap (λ (r : Bool). elim (eqb (f a) 0) [ true ↦ r | false ↦ false ]) (zero-equal f (a + 1) (b + 1) k)
+
+pub zero-at : (f : Bytes) (a k : ℕ) → allZero f a k ≡ true → (i : ℕ) → i < k → f (a + i) ≡ 0
+zero-at f a k e i h = equal-at f a zeros 0 k (sym (zero-equal f a 0 k) ∙ e) i h
+
+pub zero-all : (f : Bytes) (a k : ℕ) → ((i : ℕ) → i < k → f (a + i) ≡ 0) → allZero f a k ≡ true
+zero-all f a k h = zero-equal f a 0 k ∙ equal-all f a zeros 0 k h
+
+pub zero-not : (f : Bytes) (a k i : ℕ) → i < k → (f (a + i) ≡ 0 → ⊥) → allZero f a k ≡ false
+zero-not f a k i h n = zero-equal f a 0 k ∙ equal-not f a zeros 0 k i h n

@@ -1,3 +1,3 @@
--- The laws of the model's definitions, for the proofs of every crate.
+-- The laws that the proofs of every crate may cite.
 pub mod ByteLaws
 pub mod BitLaws

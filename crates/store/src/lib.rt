@@ -1,0 +1,100 @@
+// Bytes, numbers and runs in a slice, read and written: what every other crate does to an image.
+// Each contract says the whole slice afterwards, as bytes by address (specs/Bytes.antt of model).
+ghost use mathlib.Core.Path.{_≡_};
+ghost use Prim.Native.Nat.{_+_, _≤_, _<_};
+ghost use lib.ListN.{length};
+ghost use Rattle.model.specs.Bytes.{view, put, paste, from, clear, putWord, putLong, word, long, equalBytes};
+ghost use Rattle.model.specs.Map.{allZero};
+
+pub fn get_word(img: &[u8], at: usize) -> usize
+    requires { ⌜ at + 1 < length (now img) ⌝ }
+    ensures { λ r. ⌜ r ≡ word (view (now (img .entry))) at ⌝ }
+    ensures { λ r. ⌜ r < 65536 ⌝ }
+{
+    (img[at] as usize) + 256 * (img[at + 1] as usize)
+}
+
+pub fn get_long(img: &[u8], at: usize) -> usize
+    requires { ⌜ at + 2 < length (now img) ⌝ }
+    ensures { λ r. ⌜ r ≡ long (view (now (img .entry))) at ⌝ }
+    ensures { λ r. ⌜ r < 16777216 ⌝ }
+{
+    get_word(img, at) + 65536 * (img[at + 2] as usize)
+}
+
+pub fn put_byte(img: &mut [u8], at: usize, v: u8)
+    requires { ⌜ at < length (now img) ⌝ }
+    ensures { λ _. ⌜ view (now (img .exit)) ≡ put (view (now (img .entry))) at v ⌝ }
+{
+    img[at] = v;
+}
+
+// The low two bytes of a number: callers keep it below 65,536.
+pub fn put_word(img: &mut [u8], at: usize, v: usize)
+    requires { ⌜ at + 1 < length (now img) ⌝ }
+    ensures { λ _. ⌜ view (now (img .exit)) ≡ putWord (view (now (img .entry))) at v ⌝ }
+{
+    img[at] = (v % 256) as u8;
+    img[at + 1] = (v / 256 % 256) as u8;
+}
+
+// The low three bytes of a number.
+pub fn put_long(img: &mut [u8], at: usize, v: usize)
+    requires { ⌜ at + 2 < length (now img) ⌝ }
+    ensures { λ _. ⌜ view (now (img .exit)) ≡ putLong (view (now (img .entry))) at v ⌝ }
+{
+    put_word(img, at, v);
+    img[at + 2] = (v / 65536 % 256) as u8;
+}
+
+// k bytes of src, from `at` on, become those of dst from `to` on.
+pub fn copy_run(dst: &mut [u8], to: usize, src: &[u8], at: usize, k: usize)
+    requires { ⌜ (to + k ≤ length (now dst)) × (at + k ≤ length (now src)) ⌝ }
+    ensures { λ _. ⌜ view (now (dst .exit)) ≡ paste (view (now (dst .entry))) to k (from (view (now (src .entry))) at) ⌝ }
+{
+    let mut i = 0;
+    while i < k {
+        dst[to + i] = src[at + i];
+        i += 1;
+    }
+}
+
+pub fn clear_run(dst: &mut [u8], to: usize, k: usize)
+    requires { ⌜ to + k ≤ length (now dst) ⌝ }
+    ensures { λ _. ⌜ view (now (dst .exit)) ≡ clear (view (now (dst .entry))) to k ⌝ }
+{
+    let mut i = 0;
+    while i < k {
+        dst[to + i] = 0;
+        i += 1;
+    }
+}
+
+// Are the k bytes of f from a on those of g from b on?
+pub fn same_bytes(f: &[u8], a: usize, g: &[u8], b: usize, k: usize) -> bool
+    requires { ⌜ (a + k ≤ length (now f)) × (b + k ≤ length (now g)) ⌝ }
+    ensures { λ r. ⌜ r ≡ equalBytes (view (now (f .entry))) a (view (now (g .entry))) b k ⌝ }
+{
+    let mut i = 0;
+    while i < k {
+        if f[a + i] != g[b + i] {
+            return false;
+        }
+        i += 1;
+    }
+    true
+}
+
+pub fn all_zero(s: &[u8], at: usize, k: usize) -> bool
+    requires { ⌜ at + k ≤ length (now s) ⌝ }
+    ensures { λ r. ⌜ r ≡ allZero (view (now (s .entry))) at k ⌝ }
+{
+    let mut i = 0;
+    while i < k {
+        if s[at + i] != 0 {
+            return false;
+        }
+        i += 1;
+    }
+    true
+}
