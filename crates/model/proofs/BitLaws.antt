@@ -121,19 +121,19 @@ free-same m v w b e = rw e refl
 -- Two maps that differ in the byte of block y: there the bits of w are those of v, and d more at y's.
 module _ (m : ℕ) (v w : Bytes) (y d : ℕ) (b : ℕ) where
   pub free-flip
-    : (mapAt m b ≡ mapAt m y → bit (w (mapAt m y)) (b % 8) ≡ bit (v (mapAt m y)) (b % 8) + is (y % 8) (b % 8) * d)
-    → ((mapAt m b ≡ mapAt m y → ⊥) → w (mapAt m b) ≡ v (mapAt m b)) → free m w b ≡ free m v b + is y b * d
+      : (mapAt m b ≡ mapAt m y → bit (w (mapAt m y)) (b % 8) ≡ bit (v (mapAt m y)) (b % 8) + is (y % 8) (b % 8) * d)
+      → ((mapAt m b ≡ mapAt m y → ⊥) → w (mapAt m b) ≡ v (mapAt m b)) → free m w b ≡ free m v b + is y b * d
   unfolding free
   free-flip law out = go (eqb (b / 8) (y / 8)) refl
     where
       go : (t : Bool) → eqb (b / 8) (y / 8) ≡ t → bit (w (mapAt m b)) (b % 8) ≡ bit (v (mapAt m b)) (b % 8) + is y b * d
       go true e =
-        let q = eqb-true (b / 8) (y / 8) e in
-        let a = mapAt-same m b y q in
-        rw (a, law a, is-both y b (y % 8) (b % 8) (λ p. ap (λ (x : ℕ). x % 8) p) (λ p. omega arith)) refl
+          let q = eqb-true (b / 8) (y / 8) e in
+          let a = mapAt-same m b y q in
+          rw (a, law a, is-both y b (y % 8) (b % 8) (λ p. ap (λ (x : ℕ). x % 8) p) (λ p. omega arith)) refl
       go false e =
-        let q = eqb-false (b / 8) (y / 8) e in
-        rw (out (λ r. q (mapAt-inj m b y r)), is-no y b (λ p. q (ap (λ (x : ℕ). x / 8) (sym p)))) (omega arith)
+          let q = eqb-false (b / 8) (y / 8) e in
+          rw (out (λ r. q (mapAt-inj m b y r)), is-no y b (λ p. q (ap (λ (x : ℕ). x / 8) (sym p)))) (omega arith)
 
 -- A block given back.
 pub given-out : (m : ℕ) (v : Bytes) (y i : ℕ) → (i ≡ mapAt m y → ⊥) → given m v y i ≡ v i
@@ -147,9 +147,9 @@ given-at m v y = put-at v (mapAt m y) _
 pub given-free : (m : ℕ) (v : Bytes) (y b : ℕ) → Octets v → free m (given m v y) b ≡ free m v b + is y b * (1 - free m v y)
 unfolding free
 given-free m v y b o =
-  free-flip m v (given m v y) y (1 - free m v y) b
-  (λ a. rw (given-at m v y) (bit-set (v (mapAt m y)) (y % 8) (b % 8) (o (mapAt m y)) (omega arith) (omega arith)))
-  (given-out m v y (mapAt m b))
+    free-flip m v (given m v y) y (1 - free m v y) b
+    (λ a. rw (given-at m v y) (bit-set (v (mapAt m y)) (y % 8) (b % 8) (o (mapAt m y)) (omega arith) (omega arith)))
+    (given-out m v y (mapAt m b))
 
 pub given-octets : (m : ℕ) (v : Bytes) (y : ℕ) → Octets v → Octets (given m v y)
 unfolding given
@@ -165,23 +165,23 @@ unfolding taken
 taken-out m v z i h k = clear-out _ (z * 512) 512 i h ∙ put-off v (mapAt m z) _ i k
 
 pub taken-at : (m : ℕ) (v : Bytes) (z : ℕ) → (z * 512 ≤ mapAt m z → mapAt m z < z * 512 + 512 → ⊥)
-  → taken m v z (mapAt m z) ≡ clearBit (v (mapAt m z)) (z % 8)
+    → taken m v z (mapAt m z) ≡ clearBit (v (mapAt m z)) (z % 8)
 unfolding taken
 taken-at m v z h = clear-out _ (z * 512) 512 (mapAt m z) h ∙ put-at v (mapAt m z) _
 
 pub taken-free : (m : ℕ) (v : Bytes) (z b : ℕ) → Octets v → (z * 512 ≤ mapAt m b → mapAt m b < z * 512 + 512 → ⊥)
-  → free m (taken m v z) b + is z b * free m v z ≡ free m v b
+    → free m (taken m v z) b + is z b * free m v z ≡ free m v b
 unfolding free
 taken-free m v z b o h =
-  sym (free-flip m (taken m v z) v z (free m v z) b
-  (λ a. rw (taken-at m v z (rw a at h)) (sym (bit-clear (v (mapAt m z)) (z % 8) (b % 8) (o (mapAt m z)) (omega arith) (omega arith))))
-  (λ k. sym (taken-out m v z (mapAt m b) h k)))
+    sym (free-flip m (taken m v z) v z (free m v z) b
+    (λ a. rw (taken-at m v z (rw a at h)) (sym (bit-clear (v (mapAt m z)) (z % 8) (b % 8) (o (mapAt m z)) (omega arith) (omega arith))))
+    (λ k. sym (taken-out m v z (mapAt m b) h k)))
 
 pub taken-octets : (m : ℕ) (v : Bytes) (z : ℕ) → Octets v → Octets (taken m v z)
 unfolding taken
 taken-octets m v z o =
-  octets-clear _ (z * 512) 512
-  (octets-put v (mapAt m z) _ o (omega (arith, o (mapAt m z), clear-le (v (mapAt m z)) (z % 8))))
+    octets-clear _ (z * 512) 512
+    (octets-put v (mapAt m z) _ o (omega (arith, o (mapAt m z), clear-le (v (mapAt m z)) (z % 8))))
 
 -- The number of free blocks.
 pub room-same : (m : ℕ) (v w : Bytes) (n : ℕ) → ((b : ℕ) → b < n → free m w b ≡ free m v b) → room m w n ≡ room m v n
@@ -202,12 +202,12 @@ room-one m v w y d (suc n) f h = go (eqb y n) refl (λ k. room-one m v w y d n (
   where
     go : (t : Bool) → eqb y n ≡ t → (y < n → room m w n ≡ room m v n + d) → room m w n + free m w n ≡ room m v n + free m v n + d
     go true e r =
-      let q = eqb-true y n e in
-      let s = room-same m v w n (λ b k. rw (f b (omega arith), is-no y b (λ p. omega arith)) (omega arith)) in
-      rw (s, f n (omega arith), is-yes y n q) (omega arith)
+        let q = eqb-true y n e in
+        let s = room-same m v w n (λ b k. rw (f b (omega arith), is-no y b (λ p. omega arith)) (omega arith)) in
+        rw (s, f n (omega arith), is-yes y n q) (omega arith)
     go false e r =
-      let q = eqb-false y n e in
-      rw (r (omega arith), f n (omega arith), is-no y n q) (omega arith)
+        let q = eqb-false y n e in
+        rw (r (omega arith), f n (omega arith), is-no y n q) (omega arith)
 
 pub room-none : (m : ℕ) (v : Bytes) (n : ℕ) → ((b : ℕ) → b < n → free m v b ≡ 0) → room m v n ≡ 0
 unfolding room
@@ -227,9 +227,9 @@ pub room-given : (m : ℕ) (v : Bytes) (y n : ℕ) → Octets v → y < n → ro
 room-given m v y n o h = room-one m v (given m v y) y (1 - free m v y) n (λ b l. given-free m v y b o) h
 
 pub room-taken : (m : ℕ) (v : Bytes) (z n : ℕ) → Octets v → z < n
-  → ((b : ℕ) → b < n → z * 512 ≤ mapAt m b → mapAt m b < z * 512 + 512 → ⊥) → room m (taken m v z) n + free m v z ≡ room m v n
+    → ((b : ℕ) → b < n → z * 512 ≤ mapAt m b → mapAt m b < z * 512 + 512 → ⊥) → room m (taken m v z) n + free m v z ≡ room m v n
 room-taken m v z n o h off =
-  sym (room-one m (taken m v z) v z (free m v z) n (λ b l. sym (taken-free m v z b o (off b l))) h)
+    sym (room-one m (taken m v z) v z (free m v z) n (λ b l. sym (taken-free m v z b o (off b l))) h)
 
 -- The first free block.
 pub first-none : (m : ℕ) (v : Bytes) (b k : ℕ) → k ≤ 0 → firstFree m v b k ≡ b
@@ -255,8 +255,8 @@ pub record First (m : ℕ) (v : Bytes) (b k r : ℕ) : Type 0 where
 
 pub first-is : (m : ℕ) (v : Bytes) (b k : ℕ) → First m v b k (firstFree m v b k)
 first-is m v b zero =
-  rw (first-none m v b 0 (omega arith))
-  (record { from = omega arith; most = omega arith; found = λ h. absurd (omega arith); below = λ c g h. absurd (omega arith) })
+    rw (first-none m v b 0 (omega arith))
+    (record { from = omega arith; most = omega arith; found = λ h. absurd (omega arith); below = λ c g h. absurd (omega arith) })
 first-is m v b (suc k) = go (eqb (free m v b) 1) refl (first-is m v (b + 1) k)
   where
     low : {r : ℕ} → (free m v b ≡ 1 → ⊥) → First m v (b + 1) k r → (c : ℕ) → b ≤ c → c < r → free m v c ≡ 0
@@ -265,15 +265,16 @@ first-is m v b (suc k) = go (eqb (free m v b) 1) refl (first-is m v (b + 1) k)
         at : (t : Bool) → eqb c b ≡ t → free m v c ≡ 0
         at true e = rw (eqb-true c b e) (omega (arith, free-most m v b))
         at false e = let n = eqb-false c b e in f .below c (omega arith) h
+
     go : (t : Bool) → eqb (free m v b) 1 ≡ t → First m v (b + 1) k (firstFree m v (b + 1) k) → First m v b (suc k) (firstFree m v b (suc k))
     go true e f =
-      let q = eqb-true (free m v b) 1 e in
-      rw (first-here m v b (suc k) q)
-      (record { from = omega arith; most = omega arith; found = λ h. q; below = λ c g h. absurd (omega arith) })
+        let q = eqb-true (free m v b) 1 e in
+        rw (first-here m v b (suc k) q)
+        (record { from = omega arith; most = omega arith; found = λ h. q; below = λ c g h. absurd (omega arith) })
     go false e f =
-      let q = eqb-false (free m v b) 1 e in
-      rw (first-step m v b k q)
-      (record { from = omega arith; most = omega arith; found = λ h. f .found (omega arith); below = low q f })
+        let q = eqb-false (free m v b) 1 e in
+        rw (first-step m v b k q)
+        (record { from = omega arith; most = omega arith; found = λ h. f .found (omega arith); below = low q f })
 
 pub first-one : (m : ℕ) (v : Bytes) (b k r s : ℕ) → First m v b k r → First m v b k s → r ≡ s
 first-one m v b k r s f g = go (ltb r s) refl (ltb s r) refl
@@ -287,9 +288,9 @@ first-one m v b k r s f g = go (ltb r s) refl (ltb s r) refl
 pub lowest-from : (m : ℕ) (v : Bytes) (n h : ℕ) → h ≤ n → ((c : ℕ) → c < h → free m v c ≡ 0) → lowest m v n ≡ firstFree m v h (n - h)
 unfolding lowest
 lowest-from m v n h l f =
-  let g = first-is m v h (n - h) in
-  first-one m v 0 n _ _ (first-is m v 0 n)
-  (record { from = omega arith; most = omega arith; found = λ k. g .found (omega arith); below = below })
+    let g = first-is m v h (n - h) in
+    first-one m v 0 n _ _ (first-is m v 0 n)
+    (record { from = omega arith; most = omega arith; found = λ k. g .found (omega arith); below = below })
   where
     below : (c : ℕ) → 0 ≤ c → c < firstFree m v h (n - h) → free m v c ≡ 0
     below c z k = at (ltb c h) refl
@@ -319,8 +320,8 @@ room-lowest m v n h = go (ltb (lowest m v n) n) refl
     go : (t : Bool) → ltb (lowest m v n) n ≡ t → lowest m v n < n
     go true e = ltb-true (lowest m v n) n e
     go false e =
-      let l = ltb-false (lowest m v n) n e in
-      absurd (omega (arith, room-none m v n (λ b k. lowest-below m v n b (omega arith))))
+        let l = ltb-false (lowest m v n) n e in
+        absurd (omega (arith, room-none m v n (λ b k. lowest-below m v n b (omega arith))))
 
 -- A whole byte's blocks.
 pub bit-zero : (i : ℕ) → bit 0 i ≡ 0
@@ -351,16 +352,16 @@ module _ (c : ℕ → ℕ) (most : (i : ℕ) → c i ≤ 1) where
   bit-of : (i : ℕ) → i < 8 → bit (byteOf c 8) i ≡ c i
   unfolding byteOf bit weight
   bit-of =
-    let p = most 0 in
-    let q = most 1 in
-    let r = most 2 in
-    let s = most 3 in
-    let t = most 4 in
-    let u = most 5 in
-    let v = most 6 in
-    let w = most 7 in
-    below-eight (λ i. bit (byteOf c 8) i ≡ c i)
-    (omega arith) (omega arith) (omega arith) (omega arith) (omega arith) (omega arith) (omega arith) (omega arith)
+      let p = most 0 in
+      let q = most 1 in
+      let r = most 2 in
+      let s = most 3 in
+      let t = most 4 in
+      let u = most 5 in
+      let v = most 6 in
+      let w = most 7 in
+      below-eight (λ i. bit (byteOf c 8) i ≡ c i)
+      (omega arith) (omega arith) (omega arith) (omega arith) (omega arith) (omega arith) (omega arith) (omega arith)
 
   byte-of : byteOf c 8 < 256
   unfolding byteOf weight
@@ -370,14 +371,14 @@ module _ (c : ℕ → ℕ) (most : (i : ℕ) → c i ≤ 1) where
 byte-low : (c : ℕ → ℕ) (r : ℕ) → r < 8 → byteOf c r % 2 ^ (8 - r) ≡ 0
 unfolding byteOf weight
 byte-low c = below-eight (λ r. byteOf c r % 2 ^ (8 - r) ≡ 0)
-  (omega arith) (omega arith) (omega arith) (omega arith) (omega arith) (omega arith) (omega arith) (omega arith)
+    (omega arith) (omega arith) (omega arith) (omega arith) (omega arith) (omega arith) (omega arith) (omega arith)
 
 byte-stop : (c : ℕ → ℕ) (r j : ℕ) → ((i : ℕ) → r ≤ i → c i ≡ 0) → byteOf c (r + j) ≡ byteOf c r
 unfolding byteOf
 byte-stop c r zero f = let e : r + 0 ≡ r = omega arith in rw e refl
 byte-stop c r (suc j) f =
-  let e : r + suc j ≡ suc (r + j) = omega arith in
-  rw (e, byteOf, f (r + j) (omega arith)) (omega (arith, byte-stop c r j f))
+    let e : r + suc j ≡ suc (r + j) = omega arith in
+    rw (e, byteOf, f (r + j) (omega arith)) (omega (arith, byte-stop c r j f))
 
 -- The map of a new volume: the blocks from a to n - 1 are free.
 pub fresh-yes : (a n b : ℕ) → a ≤ b → b < n → one-if (leb a b and ltb b n) ≡ 1
@@ -421,24 +422,24 @@ fresh-byte a n j = rw (fresh-bits a n (j * 8) 8) (byte-of (fresh a n (j * 8)) (f
 pub fresh-zero : (a n j : ℕ) → n ≤ j * 8 → freshMap a n j ≡ 0
 unfolding freshMap fresh byteOf
 fresh-zero a n j h =
-  rw (fresh-bits a n (j * 8) 8)
-  (byte-stop (fresh a n (j * 8)) 0 8 (λ i l. fresh-no a n (j * 8 + i) (λ p q. omega arith)))
+    rw (fresh-bits a n (j * 8) 8)
+    (byte-stop (fresh a n (j * 8)) 0 8 (λ i l. fresh-no a n (j * 8 + i) (λ p q. omega arith)))
 
 pub fresh-low : (a n : ℕ) → freshMap a n (n / 8) % 2 ^ (8 - n % 8) ≡ 0
 unfolding freshMap fresh
 fresh-low a n =
-  let r = n % 8 in
-  let e : 8 ≡ r + (8 - r) = omega arith in
-  let s = byte-stop (fresh a n (n / 8 * 8)) r (8 - r) (λ i l. fresh-no a n (n / 8 * 8 + i) (λ p q. omega arith)) in
-  let t : byteOf (fresh a n (n / 8 * 8)) 8 ≡ byteOf (fresh a n (n / 8 * 8)) r = ap (byteOf (fresh a n (n / 8 * 8))) e ∙ s in
-  rw (fresh-bits a n (n / 8 * 8) 8, t) (byte-low (fresh a n (n / 8 * 8)) r (omega arith))
+    let r = n % 8 in
+    let e : 8 ≡ r + (8 - r) = omega arith in
+    let s = byte-stop (fresh a n (n / 8 * 8)) r (8 - r) (λ i l. fresh-no a n (n / 8 * 8 + i) (λ p q. omega arith)) in
+    let t : byteOf (fresh a n (n / 8 * 8)) 8 ≡ byteOf (fresh a n (n / 8 * 8)) r = ap (byteOf (fresh a n (n / 8 * 8))) e ∙ s in
+    rw (fresh-bits a n (n / 8 * 8) 8, t) (byte-low (fresh a n (n / 8 * 8)) r (omega arith))
 
 module _ (a n m : ℕ) (v : Bytes) (b : ℕ) where
   pub fresh-free : v (mapAt m b) ≡ freshMap a n (b / 8) → free m v b ≡ one-if (leb a b and ltb b n)
   unfolding free
   fresh-free e =
-    let p : b / 8 * 8 + b % 8 ≡ b = omega arith in
-    rw (e, fresh-bit a n (b / 8) (b % 8) (omega arith), p) refl
+      let p : b / 8 * 8 + b % 8 ≡ b = omega arith in
+      rw (e, fresh-bit a n (b / 8) (b % 8) (omega arith), p) refl
 
 pub fresh-room : (a n m : ℕ) (v : Bytes) → ((j : ℕ) → j * 8 < n → v (m * 512 + j) ≡ freshMap a n j) → room m v n ≡ n - a
 unfolding room mapAt
@@ -450,6 +451,7 @@ fresh-room a n m v f = upto n (omega arith)
         go : (t : Bool) → leb a b ≡ t → free m v b ≡ one-if (leb a b and ltb b n) → free m v b ≡ b + 1 - a - (b - a)
         go true p e = let l = leb-true a b p in rw (e, fresh-yes a n b l h) (omega arith)
         go false p e = let l = leb-false a b p in rw (e, fresh-no a n b (λ q r. omega arith)) (omega arith)
+
     upto : (k : ℕ) → k ≤ n → room m v k ≡ k - a
     upto zero h = omega arith
     upto (suc k) h = rw (upto k (omega arith), one k (omega arith)) (omega arith)
