@@ -3,6 +3,7 @@
 ghost use mathlib.Core.Path.{_≡_};
 ghost use Prim.Native.Nat.{ℕ, _+_, _-_, _*_, _/_, _%_, _^_, _≤_, _<_};
 ghost use lib.ListN.{length};
+ghost use lib.Count.{ones};
 ghost use lib.Dec.{eqb};
 ghost use Rattle.model.specs.Bytes.{view, _or_};
 ghost use Rattle.model.specs.Map.{mapBlocks, weight, bit, setBit, clearBit, mapAt, free, room, firstFree, given, taken, restClear};
@@ -58,13 +59,34 @@ pub fn is_free(img: &[u8], m: usize, b: usize) -> bool
     has_bit(img[m * 512 + b / 8], b % 8)
 }
 
-// The number of free blocks.
+fn ones_of(x: u8) -> usize
+    ensures { λ r. ⌜ (r ≡ ones x) × (r ≤ 8) ⌝ }
+{
+    u8::count_ones(x) as usize
+}
+
+// How many of the blocks of the map's first k bytes are free.
+fn free_in_bytes(img: &[u8], m: usize, k: usize) -> usize
+    requires { ⌜ (k ≤ 8191) × (m * 512 + k ≤ length (now img)) ⌝ }
+    ensures { λ r. ⌜ (r ≡ room m (view (now (img .entry))) (k * 8)) × (r ≤ k * 8) ⌝ }
+{
+    let mut count = 0;
+    let mut j = 0;
+    while j < k {
+        count += ones_of(img[m * 512 + j]);
+        j += 1;
+    }
+    count
+}
+
+// The number of free blocks: whole bytes are counted at once.
 pub fn free_blocks(img: &[u8], m: usize, n: usize) -> usize
     requires { ⌜ (n ≤ 65535) × (m * 512 + mapBlocks n * 512 ≤ length (now img)) ⌝ }
     ensures { λ r. ⌜ (r ≡ room m (view (now (img .entry))) n) × (r ≤ n) ⌝ }
 {
-    let mut count = 0;
-    let mut b = 0;
+    let whole = n / 8;
+    let mut count = free_in_bytes(img, m, whole);
+    let mut b = whole * 8;
     while b < n {
         if is_free(img, m, b) {
             count += 1;

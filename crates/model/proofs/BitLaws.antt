@@ -2,6 +2,7 @@
 use Prim.Native.Nat.{ℕ, zero, suc, _+_, _-_, _*_, _^_, _≤_, _<_, _/_, _%_}
 use mathlib.Core.Path.{_≡_, refl, sym, ap, _∙_}
 use mathlib.Core.Bool.{Bool, true, false, _&&_, false≢true}
+use lib.Count.{ones, onesIn}
 use lib.Dec.{leb, ltb, eqb}
 use native.Mathlib.Omega.{arith}
 use native.Mathlib.Nat.{zero-div}
@@ -331,6 +332,42 @@ bit-zero i = rw (zero-div (weight i)) refl
 pub zero-free : (m : ℕ) (v : Bytes) (b : ℕ) → v (mapAt m b) ≡ 0 → free m v b ≡ 0
 unfolding free
 zero-free m v b e = rw e (bit-zero (b % 8))
+
+-- the number of a byte's first k bits that are set
+bitsIn : ℕ → ℕ → ℕ
+bitsIn x zero = 0
+bitsIn x (suc i) = bitsIn x i + bit x i
+
+ones-test : ℕ → Bool
+ones-test x = eqb (ones x) (bitsIn x 8)
+
+ones-all : tests 256 ones-test ≡ true
+unfolding tests ones-test ones onesIn bitsIn bit weight
+ones-all = refl
+
+ones-bits : (x : ℕ) → x < 256 → ones x ≡ bitsIn x 8
+unfolding ones-test
+ones-bits x h = eqb-true _ _ (tests-at 256 ones-test ones-all x h)
+
+bits-most : (x k : ℕ) → bitsIn x k ≤ k
+unfolding bitsIn
+bits-most x zero = omega arith
+bits-most x (suc k) = omega (arith, bits-most x k, bit-most x k)
+
+pub ones-most : (x : ℕ) → x < 256 → ones x ≤ 8
+ones-most x h = omega (arith, ones-bits x h, bits-most x 8)
+
+pub room-byte : (m : ℕ) (v : Bytes) (j : ℕ) → v (m * 512 + j) < 256 → room m v (j * 8 + 8) ≡ room m v (j * 8) + ones (v (m * 512 + j))
+unfolding room bitsIn free mapAt
+room-byte m v j h = upto 8 (omega arith) ∙ ap (λ (x : ℕ). room m v (j * 8) + x) (sym (ones-bits (v (m * 512 + j)) h))
+  where
+    upto : (k : ℕ) → k ≤ 8 → room m v (j * 8 + k) ≡ room m v (j * 8) + bitsIn (v (m * 512 + j)) k
+    upto zero l = let e : j * 8 + 0 ≡ j * 8 = omega arith in rw e (omega arith)
+    upto (suc k) l =
+        let e : j * 8 + suc k ≡ suc (j * 8 + k) = omega arith in
+        let p : (j * 8 + k) / 8 ≡ j = omega arith in
+        let q : (j * 8 + k) % 8 ≡ k = omega arith in
+        rw (e, room, p, q, upto k (omega arith)) (omega arith)
 
 -- A byte made of bits.
 byteOf : (ℕ → ℕ) → ℕ → ℕ
