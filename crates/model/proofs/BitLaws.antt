@@ -5,11 +5,11 @@ use mathlib.Core.Bool.{Bool, true, false, _&&_, false≢true}
 use lib.Count.{ones, onesIn}
 use lib.Dec.{leb, ltb, eqb}
 use native.Mathlib.Omega.{arith}
-use native.Mathlib.Nat.{zero-div}
+use native.Mathlib.Nat.{zero-div, zero-mod}
 use borrow.Author.Tests.{eqb-true, eqb-false, eq-eqb, ne-eqb, leb-true, leb-false, le-leb, lt-leb, ltb-true, ltb-false, lt-ltb, le-ltb}
 use Rattle.model.specs.Bytes.{Bytes, Octets, is, one-if, put, clear, paste, _and_, _or_}
 use Rattle.model.specs.Map.{mapBlocks, weight, bit, setBit, clearBit, mapAt, free, room, firstFree, lowest, taken, given, allZero, restClear, freshBits, freshMap}
-use Rattle.model.proofs.ByteLaws.{put-at, put-off, clear-in, clear-out, octets-put, octets-clear}
+use Rattle.model.proofs.ByteLaws.{put-at, put-off, clear-in, clear-out, octets-put, octets-clear, zero-at, zero-all, in-or-out, at-or-off}
 
 -- a test of every number below k
 tests : ℕ → (ℕ → Bool) → Bool
@@ -43,6 +43,14 @@ clear-test x i j = eqb (bit (clearBit x i) j + is i j * bit x i) (bit x j)
 small-test : ℕ → ℕ → ℕ → Bool
 small-test x i j = ltb (setBit x i) 256
 
+-- the bits from r on
+low-test : ℕ → ℕ → ℕ → Bool
+low-test x i r = leb r i or (eqb (setBit x i % 2 ^ (8 - r)) (x % 2 ^ (8 - r)) and eqb (clearBit x i % 2 ^ (8 - r)) (x % 2 ^ (8 - r)))
+
+low-all : all low-test ≡ true
+unfolding all tests low-test bit setBit clearBit weight _or_ _and_
+low-all = refl
+
 set-all : all set-test ≡ true
 unfolding all tests set-test bit setBit weight
 set-all = refl
@@ -54,6 +62,21 @@ clear-all = refl
 small-all : all small-test ≡ true
 unfolding all tests small-test bit setBit weight
 small-all = refl
+
+or-right : (p q : Bool) → (p or q) ≡ true → p ≡ false → q ≡ true
+unfolding _or_
+or-right true q e f = absurd (false≢true (sym f))
+or-right false q e f = e
+
+and-left : (p q : Bool) → (p and q) ≡ true → p ≡ true
+unfolding _and_
+and-left true q e = refl
+and-left false q e = absurd (false≢true e)
+
+and-right : (p q : Bool) → (p and q) ≡ true → q ≡ true
+unfolding _and_
+and-right true q e = e
+and-right false q e = absurd (false≢true e)
 
 -- A byte's bits.
 pub bit-most : (x i : ℕ) → bit x i ≤ 1
@@ -75,6 +98,18 @@ set-byte x i h k = ltb-true _ _ (all-at small-test small-all x i 0 h k (omega ar
 pub clear-le : (x i : ℕ) → clearBit x i ≤ x
 unfolding clearBit
 clear-le x i = omega arith
+
+-- the bits from r on stay where an earlier one is set or cleared
+module _ (x i r : ℕ) (byte : x < 256) (order : i < r) (high : r < 8) where
+  low-both : (eqb (setBit x i % 2 ^ (8 - r)) (x % 2 ^ (8 - r)) and eqb (clearBit x i % 2 ^ (8 - r)) (x % 2 ^ (8 - r))) ≡ true
+  unfolding low-test
+  low-both = or-right (leb r i) _ (all-at low-test low-all x i r byte (omega arith) high) (lt-leb r i order)
+
+  pub set-low : setBit x i % 2 ^ (8 - r) ≡ x % 2 ^ (8 - r)
+  set-low = eqb-true _ _ (and-left _ _ low-both)
+
+  pub clear-low : clearBit x i % 2 ^ (8 - r) ≡ x % 2 ^ (8 - r)
+  clear-low = eqb-true _ _ (and-right _ _ low-both)
 
 -- Two numbers are the same or not.
 pub is-yes : (a b : ℕ) → a ≡ b → is a b ≡ 1
@@ -492,3 +527,73 @@ fresh-room a n m v f = upto n (omega arith)
     upto : (k : ℕ) → k ≤ n → room m v k ≡ k - a
     upto zero h = omega arith
     upto (suc k) h = rw (upto k (omega arith), one k (omega arith)) (omega arith)
+
+-- The bits past the last block.
+module _ (m : ℕ) (v : Bytes) (n : ℕ) where
+  pub rest-by
+    : ((n % 8 ≡ 0 → ⊥) → v (mapAt m n) % 2 ^ (8 - n % 8) ≡ 0)
+    → ((j : ℕ) → (n + 7) / 8 ≤ j → j < mapBlocks n * 512 → v (m * 512 + j) ≡ 0) → restClear m v n ≡ true
+  unfolding restClear _and_ _or_
+  rest-by low tail = rw (one, zero-all v (m * 512 + (n + 7) / 8) (mapBlocks n * 512 - (n + 7) / 8) all-of) refl
+    where
+      one : (eqb (n % 8) 0 or eqb (v (mapAt m n) % 2 ^ (8 - n % 8)) 0) ≡ true
+      one = at-or-off (n % 8) 0 (λ e. rw (eq-eqb (n % 8) 0 e) refl) (λ h. rw (ne-eqb (n % 8) 0 h, low h) refl)
+      all-of : (i : ℕ) → i < mapBlocks n * 512 - (n + 7) / 8 → v (m * 512 + (n + 7) / 8 + i) ≡ 0
+      all-of i h =
+        let a : m * 512 + (n + 7) / 8 + i ≡ m * 512 + ((n + 7) / 8 + i) = omega arith in
+        rw a (tail ((n + 7) / 8 + i) (omega arith) (omega arith))
+
+  pub rest-low : restClear m v n ≡ true → (n % 8 ≡ 0 → ⊥) → v (mapAt m n) % 2 ^ (8 - n % 8) ≡ 0
+  unfolding restClear
+  rest-low e h = eqb-true _ _ (or-right _ _ (and-left _ _ e) (ne-eqb (n % 8) 0 h))
+
+  pub rest-tail : restClear m v n ≡ true → (j : ℕ) → (n + 7) / 8 ≤ j → j < mapBlocks n * 512 → v (m * 512 + j) ≡ 0
+  unfolding restClear
+  rest-tail e j h l =
+    let a : m * 512 + (n + 7) / 8 + (j - (n + 7) / 8) ≡ m * 512 + j = omega arith in
+    sym (ap v a) ∙ zero-at v (m * 512 + (n + 7) / 8) (mapBlocks n * 512 - (n + 7) / 8) (and-right _ _ e) (j - (n + 7) / 8) (omega arith)
+
+pub rest-same : (m : ℕ) (v w : Bytes) (n : ℕ) → ((j : ℕ) → n / 8 ≤ j → j < mapBlocks n * 512 → w (m * 512 + j) ≡ v (m * 512 + j))
+  → restClear m v n ≡ true → restClear m w n ≡ true
+unfolding mapAt mapBlocks
+rest-same m v w n f e =
+  rest-by m w n (λ h. rw (f (n / 8) (omega arith) (omega arith)) (rest-low m v n e h))
+  (λ j h l. f j (omega arith) l ∙ rest-tail m v n e j h l)
+
+-- a block of the volume given back or taken
+module _ (m : ℕ) (v : Bytes) (y n : ℕ) (octets : Octets v) (low : y < n) (clear-rest : restClear m v n ≡ true) where
+  after-y : (j : ℕ) → (n + 7) / 8 ≤ j → m * 512 + j ≡ mapAt m y → ⊥
+  unfolding mapAt
+  after-y j h e = omega arith
+
+  pub rest-given : restClear m (given m v y) n ≡ true
+  rest-given =
+    rest-by m (given m v y) n
+    (λ h. at-or-off (mapAt m n) (mapAt m y) (same h) (λ k. rw (given-out m v y (mapAt m n) k) (rest-low m v n clear-rest h)))
+    (λ j h l. given-out m v y (m * 512 + j) (after-y j h) ∙ rest-tail m v n clear-rest j h l)
+    where
+      same : (n % 8 ≡ 0 → ⊥) → mapAt m n ≡ mapAt m y → given m v y (mapAt m n) % 2 ^ (8 - n % 8) ≡ 0
+      same h a =
+        let q = mapAt-inj m n y a in
+        rw (a, given-at m v y, set-low (v (mapAt m y)) (y % 8) (n % 8) (octets (mapAt m y)) (omega arith) (omega arith))
+        (rw a at (rest-low m v n clear-rest h))
+
+  pub rest-taken : restClear m (taken m v y) n ≡ true
+  rest-taken =
+    rest-by m (taken m v y) n
+    (λ h. in-or-out (y * 512) 512 (mapAt m n) (λ g l. rw (taken-in m v y (mapAt m n) g l) (zero-mod (2 ^ (8 - n % 8))))
+      (λ o. at-or-off (mapAt m n) (mapAt m y) (same h o) (λ k. rw (taken-out m v y (mapAt m n) o k) (rest-low m v n clear-rest h))))
+    (λ j h l. in-or-out (y * 512) 512 (m * 512 + j) (taken-in m v y (m * 512 + j))
+      (λ o. taken-out m v y (m * 512 + j) o (after-y j h) ∙ rest-tail m v n clear-rest j h l))
+    where
+      same : (n % 8 ≡ 0 → ⊥) → (y * 512 ≤ mapAt m n → mapAt m n < y * 512 + 512 → ⊥) → mapAt m n ≡ mapAt m y
+        → taken m v y (mapAt m n) % 2 ^ (8 - n % 8) ≡ 0
+      same h o a =
+        let q = mapAt-inj m n y a in
+        rw (a, taken-at m v y (rw a at o), clear-low (v (mapAt m y)) (y % 8) (n % 8) (octets (mapAt m y)) (omega arith) (omega arith))
+        (rw a at (rest-low m v n clear-rest h))
+
+pub fresh-rest : (a n m : ℕ) (v : Bytes) → ((j : ℕ) → j < mapBlocks n * 512 → v (m * 512 + j) ≡ freshMap a n j) → restClear m v n ≡ true
+unfolding mapAt mapBlocks
+fresh-rest a n m v f =
+  rest-by m v n (λ h. rw (f (n / 8) (omega arith)) (fresh-low a n)) (λ j h l. f j l ∙ fresh-zero a n j (omega arith))
