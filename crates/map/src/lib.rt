@@ -113,12 +113,12 @@ pub fn first_free(img: &[u8], m: usize, n: usize, hint: usize) -> usize
     requires { ⌜ (n ≤ 65535) × (hint ≤ n) × (m * 512 + mapBlocks n * 512 ≤ length (now img)) ⌝ }
     ensures { λ r. ⌜ (r ≡ firstFree m (view (now (img .entry))) hint (n - hint)) × (r ≤ n) ⌝ }
 {
-    let mut b = hint;
-    while b < n {
-        if is_free(img, m, b) {
-            return b;
+    let mut block = hint;
+    while block < n {
+        if is_free(img, m, block) {
+            return block;
         }
-        b = block_after(img, m, b);
+        block = block_after(img, m, block);
     }
     n
 }
@@ -129,8 +129,8 @@ pub fn give(img: &mut [u8], m: usize, b: usize)
     ensures { λ _. ⌜ view (now (img .exit)) ≡ given m (view (now (img .entry))) b ⌝ }
 {
     let at = m * 512 + b / 8;
-    let byte = set_bit(img[at], b % 8);
-    store::put_byte(img, at, byte);
+    let freed = set_bit(img[at], b % 8);
+    store::put_byte(img, at, freed);
 }
 
 // Takes block b: its bit is cleared and its bytes zeroed.
@@ -139,8 +139,8 @@ pub fn take(img: &mut [u8], m: usize, b: usize)
     ensures { λ _. ⌜ view (now (img .exit)) ≡ taken m (view (now (img .entry))) b ⌝ }
 {
     let at = m * 512 + b / 8;
-    let byte = clear_bit(img[at], b % 8);
-    store::put_byte(img, at, byte);
+    let used = clear_bit(img[at], b % 8);
+    store::put_byte(img, at, used);
     store::clear_run(img, b * 512, 512);
 }
 

@@ -6,9 +6,9 @@ use lib.Count.{ones, onesIn}
 use lib.Dec.{leb, ltb, eqb}
 use native.Mathlib.Omega.{arith}
 use native.Mathlib.Nat.{zero-div, zero-mod}
-use borrow.Author.Tests.{eqb-true, eqb-false, eq-eqb, ne-eqb, leb-true, leb-false, le-leb, lt-leb, ltb-true, ltb-false, lt-ltb, le-ltb}
-use Rattle.model.specs.Bytes.{Bytes, Octets, is, one-if, put, clear, paste, _and_, _or_}
-use Rattle.model.specs.Map.{mapBlocks, weight, bit, setBit, clearBit, mapAt, free, room, firstFree, lowest, taken, given, allZero, restClear, freshBits, freshMap}
+use borrow.Author.Tests.{eqb-true, eqb-false, eq-eqb, ne-eqb, leb-true, leb-false, le-leb, lt-leb, ltb-true, ltb-false, lt-ltb}
+use Rattle.model.specs.Bytes.{Bytes, Octets, is, one-if, _and_, _or_}
+use Rattle.model.specs.Map.{mapBlocks, weight, bit, setBit, clearBit, mapAt, free, room, firstFree, lowest, taken, given, restClear, freshBits, freshMap}
 use Rattle.model.proofs.ByteLaws.{put-at, put-off, clear-in, clear-out, octets-put, octets-clear, zero-at, zero-all, in-or-out, at-or-off}
 
 -- a test of every number below k
@@ -531,17 +531,18 @@ fresh-room a n m v f = upto n (omega arith)
 -- The bits past the last block.
 module _ (m : ℕ) (v : Bytes) (n : ℕ) where
   pub rest-by
-    : ((n % 8 ≡ 0 → ⊥) → v (mapAt m n) % 2 ^ (8 - n % 8) ≡ 0)
-    → ((j : ℕ) → (n + 7) / 8 ≤ j → j < mapBlocks n * 512 → v (m * 512 + j) ≡ 0) → restClear m v n ≡ true
+      : ((n % 8 ≡ 0 → ⊥) → v (mapAt m n) % 2 ^ (8 - n % 8) ≡ 0)
+      → ((j : ℕ) → (n + 7) / 8 ≤ j → j < mapBlocks n * 512 → v (m * 512 + j) ≡ 0) → restClear m v n ≡ true
   unfolding restClear _and_ _or_
   rest-by low tail = rw (one, zero-all v (m * 512 + (n + 7) / 8) (mapBlocks n * 512 - (n + 7) / 8) all-of) refl
     where
       one : (eqb (n % 8) 0 or eqb (v (mapAt m n) % 2 ^ (8 - n % 8)) 0) ≡ true
       one = at-or-off (n % 8) 0 (λ e. rw (eq-eqb (n % 8) 0 e) refl) (λ h. rw (ne-eqb (n % 8) 0 h, low h) refl)
+
       all-of : (i : ℕ) → i < mapBlocks n * 512 - (n + 7) / 8 → v (m * 512 + (n + 7) / 8 + i) ≡ 0
       all-of i h =
-        let a : m * 512 + (n + 7) / 8 + i ≡ m * 512 + ((n + 7) / 8 + i) = omega arith in
-        rw a (tail ((n + 7) / 8 + i) (omega arith) (omega arith))
+          let a : m * 512 + (n + 7) / 8 + i ≡ m * 512 + ((n + 7) / 8 + i) = omega arith in
+          rw a (tail ((n + 7) / 8 + i) (omega arith) (omega arith))
 
   pub rest-low : restClear m v n ≡ true → (n % 8 ≡ 0 → ⊥) → v (mapAt m n) % 2 ^ (8 - n % 8) ≡ 0
   unfolding restClear
@@ -550,15 +551,15 @@ module _ (m : ℕ) (v : Bytes) (n : ℕ) where
   pub rest-tail : restClear m v n ≡ true → (j : ℕ) → (n + 7) / 8 ≤ j → j < mapBlocks n * 512 → v (m * 512 + j) ≡ 0
   unfolding restClear
   rest-tail e j h l =
-    let a : m * 512 + (n + 7) / 8 + (j - (n + 7) / 8) ≡ m * 512 + j = omega arith in
-    sym (ap v a) ∙ zero-at v (m * 512 + (n + 7) / 8) (mapBlocks n * 512 - (n + 7) / 8) (and-right _ _ e) (j - (n + 7) / 8) (omega arith)
+      let a : m * 512 + (n + 7) / 8 + (j - (n + 7) / 8) ≡ m * 512 + j = omega arith in
+      sym (ap v a) ∙ zero-at v (m * 512 + (n + 7) / 8) (mapBlocks n * 512 - (n + 7) / 8) (and-right _ _ e) (j - (n + 7) / 8) (omega arith)
 
 pub rest-same : (m : ℕ) (v w : Bytes) (n : ℕ) → ((j : ℕ) → n / 8 ≤ j → j < mapBlocks n * 512 → w (m * 512 + j) ≡ v (m * 512 + j))
-  → restClear m v n ≡ true → restClear m w n ≡ true
+    → restClear m v n ≡ true → restClear m w n ≡ true
 unfolding mapAt mapBlocks
 rest-same m v w n f e =
-  rest-by m w n (λ h. rw (f (n / 8) (omega arith) (omega arith)) (rest-low m v n e h))
-  (λ j h l. f j (omega arith) l ∙ rest-tail m v n e j h l)
+    rest-by m w n (λ h. rw (f (n / 8) (omega arith) (omega arith)) (rest-low m v n e h))
+    (λ j h l. f j (omega arith) l ∙ rest-tail m v n e j h l)
 
 -- a block of the volume given back or taken
 module _ (m : ℕ) (v : Bytes) (y n : ℕ) (octets : Octets v) (low : y < n) (clear-rest : restClear m v n ≡ true) where
@@ -568,32 +569,32 @@ module _ (m : ℕ) (v : Bytes) (y n : ℕ) (octets : Octets v) (low : y < n) (cl
 
   pub rest-given : restClear m (given m v y) n ≡ true
   rest-given =
-    rest-by m (given m v y) n
-    (λ h. at-or-off (mapAt m n) (mapAt m y) (same h) (λ k. rw (given-out m v y (mapAt m n) k) (rest-low m v n clear-rest h)))
-    (λ j h l. given-out m v y (m * 512 + j) (after-y j h) ∙ rest-tail m v n clear-rest j h l)
+      rest-by m (given m v y) n
+      (λ h. at-or-off (mapAt m n) (mapAt m y) (same h) (λ k. rw (given-out m v y (mapAt m n) k) (rest-low m v n clear-rest h)))
+      (λ j h l. given-out m v y (m * 512 + j) (after-y j h) ∙ rest-tail m v n clear-rest j h l)
     where
       same : (n % 8 ≡ 0 → ⊥) → mapAt m n ≡ mapAt m y → given m v y (mapAt m n) % 2 ^ (8 - n % 8) ≡ 0
       same h a =
-        let q = mapAt-inj m n y a in
-        rw (a, given-at m v y, set-low (v (mapAt m y)) (y % 8) (n % 8) (octets (mapAt m y)) (omega arith) (omega arith))
-        (rw a at (rest-low m v n clear-rest h))
+          let q = mapAt-inj m n y a in
+          rw (a, given-at m v y, set-low (v (mapAt m y)) (y % 8) (n % 8) (octets (mapAt m y)) (omega arith) (omega arith))
+          (rw a at (rest-low m v n clear-rest h))
 
   pub rest-taken : restClear m (taken m v y) n ≡ true
   rest-taken =
-    rest-by m (taken m v y) n
-    (λ h. in-or-out (y * 512) 512 (mapAt m n) (λ g l. rw (taken-in m v y (mapAt m n) g l) (zero-mod (2 ^ (8 - n % 8))))
+      rest-by m (taken m v y) n
+      (λ h. in-or-out (y * 512) 512 (mapAt m n) (λ g l. rw (taken-in m v y (mapAt m n) g l) (zero-mod (2 ^ (8 - n % 8))))
       (λ o. at-or-off (mapAt m n) (mapAt m y) (same h o) (λ k. rw (taken-out m v y (mapAt m n) o k) (rest-low m v n clear-rest h))))
-    (λ j h l. in-or-out (y * 512) 512 (m * 512 + j) (taken-in m v y (m * 512 + j))
+      (λ j h l. in-or-out (y * 512) 512 (m * 512 + j) (taken-in m v y (m * 512 + j))
       (λ o. taken-out m v y (m * 512 + j) o (after-y j h) ∙ rest-tail m v n clear-rest j h l))
     where
       same : (n % 8 ≡ 0 → ⊥) → (y * 512 ≤ mapAt m n → mapAt m n < y * 512 + 512 → ⊥) → mapAt m n ≡ mapAt m y
-        → taken m v y (mapAt m n) % 2 ^ (8 - n % 8) ≡ 0
+          → taken m v y (mapAt m n) % 2 ^ (8 - n % 8) ≡ 0
       same h o a =
-        let q = mapAt-inj m n y a in
-        rw (a, taken-at m v y (rw a at o), clear-low (v (mapAt m y)) (y % 8) (n % 8) (octets (mapAt m y)) (omega arith) (omega arith))
-        (rw a at (rest-low m v n clear-rest h))
+          let q = mapAt-inj m n y a in
+          rw (a, taken-at m v y (rw a at o), clear-low (v (mapAt m y)) (y % 8) (n % 8) (octets (mapAt m y)) (omega arith) (omega arith))
+          (rw a at (rest-low m v n clear-rest h))
 
 pub fresh-rest : (a n m : ℕ) (v : Bytes) → ((j : ℕ) → j < mapBlocks n * 512 → v (m * 512 + j) ≡ freshMap a n j) → restClear m v n ≡ true
 unfolding mapAt mapBlocks
 fresh-rest a n m v f =
-  rest-by m v n (λ h. rw (f (n / 8) (omega arith)) (fresh-low a n)) (λ j h l. f j l ∙ fresh-zero a n j (omega arith))
+    rest-by m v n (λ h. rw (f (n / 8) (omega arith)) (fresh-low a n)) (λ j h l. f j l ∙ fresh-zero a n j (omega arith))

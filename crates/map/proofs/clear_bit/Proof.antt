@@ -1,35 +1,26 @@
-use mathlib.Core.Path.{_≡_, sym, _∙_}
-use native.Mathlib.Omega.{arith}
+-- `map::clear_bit` meets its contract. A byte that has the bit is at least its weight. Assumes nothing.
+use mathlib.Core.Path.{sym, _∙_}
 use Rattle.map.proofs.Laws.{clear-has, clear-lacks, weighs}
 use borrow.Author.Needs.{needs}
 use Rattle.map.proofs.clear_bit.Statement.{statement}
 use Rattle.map.proofs.clear_bit.Tie as tie
-use Rattle.map.proofs.clear_bit.Reads as reads
-use Rattle.map.proofs.clear_bit.Lts as lts
-use Rattle.map.proofs.has_bit.Reads as has-bit-reads
-use Rattle.map.proofs.weight_of.Reads as weight-of-reads
 
--- src/lib.rt:47:8
 has-bit-requires : tie.Need-has-bit-requires
 has-bit-requires c κs = search needs
 
--- src/lib.rt:48:20
 weight-of-requires : tie.Need-weight-of-requires
 weight-of-requires c κs = search needs
 
--- src/lib.rt:48:16
 sub-result : tie.Need-sub-result
 sub-result c =
     let a = c .before .before .before .args in
     rw (c .weight-of .ensures .0) (weighs (a .x) (a .i) (sym (c .before .before .has-bit .ensures) ∙ c .before .if1 .taken))
 
--- src/lib.rt:48:9
 returns : tie.Need-returns
 returns c =
     let a = c .before .before .before .args in
     rw (c .weight-of .ensures .0) (clear-has (a .x) (a .i) (sym (c .before .before .has-bit .ensures) ∙ c .before .if1 .taken))
 
--- src/lib.rt:43:1
 returns-2 : tie.Need-returns-2
 returns-2 c =
     let a = c .before .before .args in

@@ -1,6 +1,7 @@
-use mathlib.Core.Path.{_≡_, refl, sym, ap, _∙_}
+-- `map::free_blocks` meets its contract. The loop's invariant: the count is the room of the blocks passed. The measure is the blocks left. Assumes nothing.
+use mathlib.Core.Path.{_≡_, sym, ap, _∙_}
 use mathlib.Core.Logic.{⊎-elim}
-use Prim.Native.Nat.{ℕ, _+_, _-_, _≤_, _<_}
+use Prim.Native.Nat.{_-_, _≤_}
 use native.Mathlib.Omega.{arith}
 use borrow.Author.Tests.{eqb-true}
 use Rattle.model.specs.Bytes.{view}
@@ -10,10 +11,6 @@ use Rattle.map.proofs.Laws.{room-next, not-free}
 use borrow.Author.Needs.{needs}
 use Rattle.map.proofs.free_blocks.Statement.{statement}
 use Rattle.map.proofs.free_blocks.Tie as tie
-use Rattle.map.proofs.free_blocks.Reads as reads
-use Rattle.map.proofs.free_blocks.Lts as lts
-use Rattle.map.proofs.free_in_bytes.Reads as free-in-bytes-reads
-use Rattle.map.proofs.is_free.Reads as is-free-reads
 
 abbrev Inv-loop : tie.InvT-loop
 Inv-loop img m n whole count₀ b₀ count b = (b ≤ n) × (count ≡ room m (view img) b) × (count ≤ b)
@@ -21,36 +18,28 @@ Inv-loop img m n whole count₀ b₀ count b = (b ≤ n) × (count ≡ room m (v
 abbrev μ-loop : tie.MeasureT-loop
 μ-loop img m n whole count₀ b₀ count b = n - b
 
--- src/lib.rt:88:9
 free-in-bytes-requires : tie.Need-free-in-bytes-requires Inv-loop μ-loop
 unfolding mapBlocks
 free-in-bytes-requires c κs = search needs
 
--- src/lib.rt:89:17
 mul-b : tie.Need-mul-b Inv-loop μ-loop
 mul-b c = search needs
 
--- src/lib.rt:90:5
 loop-holds : tie.Need-loop-holds Inv-loop μ-loop
 loop-holds c = search needs
 
--- src/lib.rt:91:12
 is-free-requires : tie.Need-is-free-requires Inv-loop μ-loop
 is-free-requires c κs = let a = c .before .before .before .before .args in omega (arith, mapAt-in (a .m) (a .n) (c .before .loop .b) (omega arith))
 
--- src/lib.rt:92:13
 add-count : tie.Need-add-count Inv-loop μ-loop
 add-count c = search needs
 
--- src/lib.rt:94:9
 add-b : tie.Need-add-b Inv-loop μ-loop
 add-b c = search needs
 
--- src/lib.rt:90:5
 loop-less : tie.Need-loop-less Inv-loop μ-loop
 loop-less c = search needs
 
--- src/lib.rt:90:5
 loop-again : tie.Need-loop-again Inv-loop μ-loop
 loop-again c =
     let a = c .before .before .before .before .before .before .args in
@@ -63,7 +52,6 @@ loop-again c =
     (λ w. let f = not-free (a .m) v (l .b) (sym t ∙ w .0 .left) in (omega arith, omega arith, omega arith))
     (c .if1 .came)
 
--- src/lib.rt:83:1
 returns : tie.Need-returns Inv-loop μ-loop
 returns c =
     let a = c .before .before .before .before .args in

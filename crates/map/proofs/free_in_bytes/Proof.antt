@@ -1,5 +1,6 @@
-use mathlib.Core.Path.{_≡_, refl, sym, ap, _∙_}
-use Prim.Native.Nat.{ℕ, _+_, _-_, _*_, _≤_, _<_}
+-- `map::free_in_bytes` meets its contract. The loop's invariant: the count is the room of the bytes passed. The measure is the bytes left. Assumes nothing.
+use mathlib.Core.Path.{_≡_, refl, ap, _∙_}
+use Prim.Native.Nat.{ℕ, _+_, _-_, _*_, _≤_}
 use native.Mathlib.Omega.{arith}
 use Rattle.model.specs.Bytes.{view}
 use Rattle.model.specs.Map.{room}
@@ -7,9 +8,6 @@ use Rattle.model.proofs.BitLaws.{room-byte}
 use borrow.Author.Needs.{needs}
 use Rattle.map.proofs.free_in_bytes.Statement.{statement}
 use Rattle.map.proofs.free_in_bytes.Tie as tie
-use Rattle.map.proofs.free_in_bytes.Reads as reads
-use Rattle.map.proofs.free_in_bytes.Lts as lts
-use Rattle.map.proofs.ones_of.Reads as ones-of-reads
 
 abbrev Inv-loop : tie.InvT-loop
 Inv-loop img m k count₀ j₀ count j = (j ≤ k) × (count ≡ room m (view img) (j * 8)) × (count ≤ j * 8)
@@ -17,40 +15,31 @@ Inv-loop img m k count₀ j₀ count j = (j ≤ k) × (count ≡ room m (view im
 abbrev μ-loop : tie.MeasureT-loop
 μ-loop img m k count₀ j₀ count j = k - j
 
--- src/lib.rt:75:5
 loop-holds : tie.Need-loop-holds Inv-loop μ-loop
 unfolding room
 loop-holds c = (omega arith, refl, omega arith)
 
--- src/lib.rt:76:30
 mul-ones-of : tie.Need-mul-ones-of Inv-loop μ-loop
 mul-ones-of c = search needs
 
--- src/lib.rt:76:30
 add-ones-of : tie.Need-add-ones-of Inv-loop μ-loop
 add-ones-of c = search needs
 
--- src/lib.rt:76:26
 shared-slice-read-ones-of : tie.Need-shared-slice-read-ones-of Inv-loop μ-loop
 shared-slice-read-ones-of c = search needs
 
--- src/lib.rt:76:18
 ones-of-requires : tie.Need-ones-of-requires Inv-loop μ-loop
 ones-of-requires c κs = search needs
 
--- src/lib.rt:76:9
 add-count : tie.Need-add-count Inv-loop μ-loop
 add-count c = search needs
 
--- src/lib.rt:77:9
 add-j : tie.Need-add-j Inv-loop μ-loop
 add-j c = search needs
 
--- src/lib.rt:75:5
 loop-less : tie.Need-loop-less Inv-loop μ-loop
 loop-less c = search needs
 
--- src/lib.rt:75:5
 loop-again : tie.Need-loop-again Inv-loop μ-loop
 loop-again c =
     let a = c .before .before .before .before .before .args in
@@ -60,7 +49,6 @@ loop-again c =
     let r = room-byte (a .m) v (l .j) (omega (arith, c .before .shared-slice-known2 .given (a .m * 512 + l .j))) in
     (omega arith, rw e (omega (arith, r, c .ones-of .ensures .0, l .inv .1)), omega arith)
 
--- src/lib.rt:69:1
 returns : tie.Need-returns Inv-loop μ-loop
 returns c =
     let a = c .before .before .before .args in

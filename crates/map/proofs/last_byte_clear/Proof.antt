@@ -1,49 +1,37 @@
-use Prim.Native.Nat.{_-_, _%_, _^_}
+-- `map::last_byte_clear` meets its contract. The weight of the bit before is the power of 2 that divides. Assumes nothing.
+use Prim.Native.Nat.{_-_, _%_}
 use Rattle.map.proofs.Laws.{last-whole, last-part}
-use mathlib.Core.Path.{_≡_, refl, sym, ap, _∙_}
-use borrow.Author.Tests.{eq-eqb, ne-eqb}
+use mathlib.Core.Path.{_≡_}
 use native.Mathlib.Omega.{arith}
-use Rattle.model.specs.Bytes.{view, _or_}
 use Rattle.model.specs.Map.{mapAt, mapBlocks, weight}
 use borrow.Author.Needs.{needs}
 use Rattle.map.proofs.last_byte_clear.Statement.{statement}
 use Rattle.map.proofs.last_byte_clear.Tie as tie
-use Rattle.map.proofs.last_byte_clear.Reads as reads
-use Rattle.map.proofs.last_byte_clear.Lts as lts
-use Rattle.map.proofs.weight_of.Reads as weight-of-reads
 
--- src/lib.rt:132:9
 returns : tie.Need-returns
 returns c = last-whole (c .before .before .args .n % 8) _ (c .if1 .taken)
 
--- src/lib.rt:134:9
 mul-result : tie.Need-mul-result
 unfolding mapBlocks
 mul-result c = search needs
 
--- src/lib.rt:134:9
 add-result : tie.Need-add-result
 unfolding mapBlocks
 add-result c = search needs
 
--- src/lib.rt:134:5
 shared-slice-read-result : tie.Need-shared-slice-read-result
 unfolding mapBlocks
 shared-slice-read-result c = search needs
 
--- src/lib.rt:134:38
 sub-weight-of : tie.Need-sub-weight-of
 sub-weight-of c = search needs
 
--- src/lib.rt:134:28
 weight-of-requires : tie.Need-weight-of-requires
 weight-of-requires c κs = search needs
 
--- src/lib.rt:134:5
 rem-result : tie.Need-rem-result
 rem-result c = search needs
 
--- src/lib.rt:126:1
 returns-2 : tie.Need-returns-2
 unfolding mapAt weight
 returns-2 c =

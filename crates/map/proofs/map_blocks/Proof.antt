@@ -1,15 +1,12 @@
+-- `map::map_blocks` meets its contract. The sum fits, and the quotient is the definition. Assumes nothing.
 use Rattle.model.specs.Map.{mapBlocks}
 use borrow.Author.Needs.{needs}
 use Rattle.map.proofs.map_blocks.Statement.{statement}
 use Rattle.map.proofs.map_blocks.Tie as tie
-use Rattle.map.proofs.map_blocks.Reads as reads
-use Rattle.map.proofs.map_blocks.Lts as lts
 
--- src/lib.rt:15:6
 add-result : tie.Need-add-result
 add-result c = search needs
 
--- src/lib.rt:11:1
 returns : tie.Need-returns
 unfolding mapBlocks
 returns c = search needs

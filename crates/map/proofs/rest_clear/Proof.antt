@@ -1,63 +1,48 @@
+-- `map::rest_clear` meets its contract. The two tests are the two parts of the definition. Assumes nothing.
 use borrow.Author.Tests.{not-true, not-false}
 use Rattle.map.proofs.Laws.{rest-no, rest-yes}
-use mathlib.Core.Path.{_≡_, refl, sym, ap, _∙_}
-use native.Mathlib.Omega.{arith}
-use Rattle.model.specs.Bytes.{view, _or_, _and_}
-use Rattle.model.specs.Map.{mapAt, mapBlocks, restClear}
+use mathlib.Core.Path.{sym, _∙_}
+use Rattle.model.specs.Bytes.{view}
+use Rattle.model.specs.Map.{mapBlocks}
 use borrow.Author.Needs.{needs}
 use Rattle.map.proofs.rest_clear.Statement.{statement}
 use Rattle.map.proofs.rest_clear.Tie as tie
-use Rattle.map.proofs.rest_clear.Reads as reads
-use Rattle.map.proofs.rest_clear.Lts as lts
-use Rattle.map.proofs.last_byte_clear.Reads as last-byte-clear-reads
-use Rattle.map.proofs.map_blocks.Reads as map-blocks-reads
-use Rattle.store.proofs.all_zero.Reads as all-zero-reads
 
--- src/lib.rt:142:9
 last-byte-clear-requires : tie.Need-last-byte-clear-requires
 last-byte-clear-requires c κs = search needs
 
--- src/lib.rt:143:9
 returns : tie.Need-returns
 returns c =
     let a = c .before .before .before .args in
     rest-no (a .m) (view (a .img .now)) (a .n) (sym (c .before .last-byte-clear .ensures) ∙ not-true _ (c .if1 .taken))
 
--- src/lib.rt:145:17
 add-used : tie.Need-add-used
 unfolding mapBlocks
 add-used c = search needs
 
--- src/lib.rt:146:26
 mul-all-zero : tie.Need-mul-all-zero
 unfolding mapBlocks
 mul-all-zero c = search needs
 
--- src/lib.rt:146:26
 add-all-zero : tie.Need-add-all-zero
 unfolding mapBlocks
 add-all-zero c = search needs
 
--- src/lib.rt:146:42
 map-blocks-requires : tie.Need-map-blocks-requires
 map-blocks-requires c κs = search needs
 
--- src/lib.rt:146:42
 mul-all-zero-2 : tie.Need-mul-all-zero-2
 unfolding mapBlocks
 mul-all-zero-2 c = search needs
 
--- src/lib.rt:146:42
 sub-all-zero : tie.Need-sub-all-zero
 unfolding mapBlocks
 sub-all-zero c = search needs
 
--- src/lib.rt:146:5
 all-zero-requires : tie.Need-all-zero-requires
 unfolding mapBlocks
 all-zero-requires c κs = search needs
 
--- src/lib.rt:138:1
 returns-2 : tie.Need-returns-2
 returns-2 c =
     let a = c .before .before .before .before .before .args in

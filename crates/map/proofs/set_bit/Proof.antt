@@ -1,37 +1,29 @@
-use mathlib.Core.Path.{_≡_, sym, _∙_}
+-- `map::set_bit` meets its contract. A byte that lacks the bit has room for its weight. Assumes nothing.
+use mathlib.Core.Path.{sym, _∙_}
 use native.Mathlib.Omega.{arith}
 use Rattle.map.proofs.Laws.{set-has, set-lacks}
 use Rattle.model.proofs.BitLaws.{set-byte}
 use borrow.Author.Needs.{needs}
 use Rattle.map.proofs.set_bit.Statement.{statement}
 use Rattle.map.proofs.set_bit.Tie as tie
-use Rattle.map.proofs.set_bit.Reads as reads
-use Rattle.map.proofs.set_bit.Lts as lts
-use Rattle.map.proofs.has_bit.Reads as has-bit-reads
-use Rattle.map.proofs.weight_of.Reads as weight-of-reads
 
--- src/lib.rt:37:8
 has-bit-requires : tie.Need-has-bit-requires
 has-bit-requires c κs = search needs
 
--- src/lib.rt:38:9
 returns : tie.Need-returns
 returns c =
     let a = c .before .before .args in
     set-has (a .x) (a .i) (sym (c .before .has-bit .ensures) ∙ c .if1 .taken)
 
--- src/lib.rt:40:9
 weight-of-requires : tie.Need-weight-of-requires
 weight-of-requires c κs = search needs
 
--- src/lib.rt:40:5
 add-result : tie.Need-add-result
 add-result c =
     let a = c .before .before .before .args in
     let e = set-lacks (a .x) (a .i) (sym (c .before .before .has-bit .ensures) ∙ c .before .if1 .left) in
     omega (arith, set-byte (a .x) (a .i) (omega arith) (omega arith))
 
--- src/lib.rt:33:1
 returns-2 : tie.Need-returns-2
 returns-2 c =
     let a = c .before .before .before .args in

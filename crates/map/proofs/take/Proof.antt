@@ -1,54 +1,41 @@
+-- `map::take` meets its contract. The byte stored is the one with the bit clear, and the run cleared is the block. Assumes nothing.
 use Prim.Native.Nat.{_+_, _*_, _/_}
-use mathlib.Core.Path.{_≡_, sym, ap, _∙_}
+use mathlib.Core.Path.{ap, _∙_}
 use Rattle.model.specs.Bytes.{view, put, clear}
 use Rattle.model.specs.Map.{mapAt, taken}
 use borrow.Author.Needs.{needs}
 use Rattle.map.proofs.take.Statement.{statement}
 use Rattle.map.proofs.take.Tie as tie
-use Rattle.map.proofs.take.Reads as reads
-use Rattle.map.proofs.take.Lts as lts
-use Rattle.map.proofs.clear_bit.Reads as clear-bit-reads
-use Rattle.store.proofs.clear_run.Reads as clear-run-reads
-use Rattle.store.proofs.put_byte.Reads as put-byte-reads
 
--- src/lib.rt:119:14
 mul-at : tie.Need-mul-at
 unfolding mapAt
 mul-at c = search needs
 
--- src/lib.rt:119:14
 add-at : tie.Need-add-at
 unfolding mapAt
 add-at c = search needs
 
--- src/lib.rt:120:26
 slice-read-clear-bit : tie.Need-slice-read-clear-bit
 unfolding mapAt
 slice-read-clear-bit c = search needs
 
--- src/lib.rt:120:9
 clear-bit-requires : tie.Need-clear-bit-requires
 clear-bit-requires c κs = search needs
 
--- src/lib.rt:121:5
 put-byte-requires : tie.Need-put-byte-requires
 unfolding mapAt
 put-byte-requires c κs = search needs
 
--- src/lib.rt:122:27
 mul-clear-run : tie.Need-mul-clear-run
 unfolding mapAt
 mul-clear-run c = search needs
 
--- src/lib.rt:122:5
 clear-run-requires : tie.Need-clear-run-requires
 clear-run-requires c κs = search needs
 
--- src/lib.rt:115:1
 same-length : tie.Need-same-length
 same-length c = search needs
 
--- src/lib.rt:115:1
 returns : tie.Need-returns
 unfolding taken mapAt
 returns c =
