@@ -139,8 +139,22 @@ paste-paste f a k g b m h l = paste-by (paste f a k (paste g b m h)) (paste f a 
     outside : (i : ℕ) → (a + b ≤ i → i < a + b + m → ⊥) → paste f a k (paste g b m h) i ≡ paste f a k g i
     outside i n =
         in-or-out a k i
-        (λ u v. paste-in f a k (paste g b m h) i u v ∙ paste-out g b m h (i - a) (λ x y. n (omega arith) (omega arith)) ∙ sym (paste-in f a k g i u v))
+        (λ u v. paste-in f a k (paste g b m h) i u v
+        ∙ paste-out g b m h (i - a) (λ x y. n (omega arith) (omega arith))
+        ∙ sym (paste-in f a k g i u v))
         (λ o. paste-out f a k (paste g b m h) i o ∙ sym (paste-out f a k g i o))
+
+pub paste-clear : (f : Bytes) (a k : ℕ) (g : Bytes) (b m : ℕ) → b + m ≤ k → paste f a k (clear g b m) ≡ clear (paste f a k g) (a + b) m
+unfolding clear
+paste-clear f a k g b m l = paste-paste f a k g b m zeros l
+
+pub paste-putWord : (f : Bytes) (a k : ℕ) (g : Bytes) (i x : ℕ) → i + 2 ≤ k → paste f a k (putWord g i x) ≡ putWord (paste f a k g) (a + i) x
+unfolding putWord
+paste-putWord f a k g i x l = paste-paste f a k g i 2 (digit x) l
+
+pub paste-putLong : (f : Bytes) (a k : ℕ) (g : Bytes) (i x : ℕ) → i + 3 ≤ k → paste f a k (putLong g i x) ≡ putLong (paste f a k g) (a + i) x
+unfolding putLong
+paste-putLong f a k g i x l = paste-paste f a k g i 3 (digit x) l
 
 pub clear-in : (f : Bytes) (a k i : ℕ) → a ≤ i → i < a + k → clear f a k i ≡ 0
 unfolding clear
@@ -173,6 +187,10 @@ view-read xs a k i h = getD-take k (drop a xs) i 0 h ∙ getD-drop a xs i 0
 
 pub agree-part : (xs : List ℕ) (a k : ℕ) → Agree k (view (take k (drop a xs))) (from (view xs) a)
 agree-part xs a k i h = view-read xs a k i h
+
+-- a part given back as it was
+pub part-self : (xs : List ℕ) (a k : ℕ) → paste (view xs) a k (view (take k (drop a xs))) ≡ view xs
+part-self xs a k = paste-cong (view xs) a k _ _ (agree-part xs a k) ∙ paste-self (view xs) a k
 
 pub length-part : (xs : List ℕ) (a k : ℕ) → a + k ≤ length xs → length (take k (drop a xs)) ≡ k
 length-part xs a k h = length-take-le k (drop a xs) (simp length-drop (omega arith))
@@ -289,17 +307,20 @@ module _ (f : Bytes) (a k : ℕ) (g : Bytes) (i : ℕ) where
 
   pub long-paste-off : (a ≤ i + 2 → i < a + k → ⊥) → long (paste f a k g) i ≡ long f i
   long-paste-off n =
-      long-same (paste f a k g) f i i (paste-out f a k g i (λ u v. n (omega arith) v)) (paste-out f a k g (i + 1) (λ u v. n (omega arith) (omega arith)))
+      long-same (paste f a k g) f i i (paste-out f a k g i (λ u v. n (omega arith) v))
+      (paste-out f a k g (i + 1) (λ u v. n (omega arith) (omega arith)))
       (paste-out f a k g (i + 2) (λ u v. n u (omega arith)))
 
 module _ (f : Bytes) (a c i : ℕ) where
   pub word-put-off : (a ≤ i + 1 → i < a + 1 → ⊥) → word (put f a c) i ≡ word f i
   word-put-off n =
-      word-same (put f a c) f i i (put-off f a c i (λ e. n (omega arith) (omega arith))) (put-off f a c (i + 1) (λ e. n (omega arith) (omega arith)))
+      word-same (put f a c) f i i (put-off f a c i (λ e. n (omega arith) (omega arith)))
+      (put-off f a c (i + 1) (λ e. n (omega arith) (omega arith)))
 
   pub long-put-off : (a ≤ i + 2 → i < a + 1 → ⊥) → long (put f a c) i ≡ long f i
   long-put-off n =
-      long-same (put f a c) f i i (put-off f a c i (λ e. n (omega arith) (omega arith))) (put-off f a c (i + 1) (λ e. n (omega arith) (omega arith)))
+      long-same (put f a c) f i i (put-off f a c i (λ e. n (omega arith) (omega arith)))
+      (put-off f a c (i + 1) (λ e. n (omega arith) (omega arith)))
       (put-off f a c (i + 2) (λ e. n (omega arith) (omega arith)))
 
 module _ (f : Bytes) (a k i : ℕ) where

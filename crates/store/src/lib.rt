@@ -11,7 +11,9 @@ pub fn get_word(img: &[u8], at: usize) -> usize
     ensures { λ r. ⌜ r ≡ word (view (now (img .entry))) at ⌝ }
     ensures { λ r. ⌜ r < 65536 ⌝ }
 {
-    (img[at] as usize) + 256 * (img[at + 1] as usize)
+    let low = img[at] as usize;
+    let high = img[at + 1] as usize;
+    low + 256 * high
 }
 
 pub fn get_long(img: &[u8], at: usize) -> usize
@@ -19,7 +21,9 @@ pub fn get_long(img: &[u8], at: usize) -> usize
     ensures { λ r. ⌜ r ≡ long (view (now (img .entry))) at ⌝ }
     ensures { λ r. ⌜ r < 16777216 ⌝ }
 {
-    get_word(img, at) + 65536 * (img[at + 2] as usize)
+    let low = get_word(img, at);
+    let high = img[at + 2] as usize;
+    low + 65536 * high
 }
 
 pub fn put_byte(img: &mut [u8], at: usize, v: u8)
@@ -52,10 +56,10 @@ pub fn copy_run(dst: &mut [u8], to: usize, src: &[u8], at: usize, k: usize)
     requires { ⌜ (to + k ≤ length (now dst)) × (at + k ≤ length (now src)) ⌝ }
     ensures { λ _. ⌜ view (now (dst .exit)) ≡ paste (view (now (dst .entry))) to k (from (view (now (src .entry))) at) ⌝ }
 {
-    let mut i = 0;
-    while i < k {
-        dst[to + i] = src[at + i];
-        i += 1;
+    let mut copied = 0;
+    while copied < k {
+        dst[to + copied] = src[at + copied];
+        copied += 1;
     }
 }
 
@@ -63,10 +67,10 @@ pub fn clear_run(dst: &mut [u8], to: usize, k: usize)
     requires { ⌜ to + k ≤ length (now dst) ⌝ }
     ensures { λ _. ⌜ view (now (dst .exit)) ≡ clear (view (now (dst .entry))) to k ⌝ }
 {
-    let mut i = 0;
-    while i < k {
-        dst[to + i] = 0;
-        i += 1;
+    let mut cleared = 0;
+    while cleared < k {
+        dst[to + cleared] = 0;
+        cleared += 1;
     }
 }
 
@@ -75,12 +79,12 @@ pub fn same_bytes(f: &[u8], a: usize, g: &[u8], b: usize, k: usize) -> bool
     requires { ⌜ (a + k ≤ length (now f)) × (b + k ≤ length (now g)) ⌝ }
     ensures { λ r. ⌜ r ≡ equalBytes (view (now (f .entry))) a (view (now (g .entry))) b k ⌝ }
 {
-    let mut i = 0;
-    while i < k {
-        if f[a + i] != g[b + i] {
+    let mut same = 0;
+    while same < k {
+        if f[a + same] != g[b + same] {
             return false;
         }
-        i += 1;
+        same += 1;
     }
     true
 }
@@ -89,12 +93,12 @@ pub fn all_zero(s: &[u8], at: usize, k: usize) -> bool
     requires { ⌜ at + k ≤ length (now s) ⌝ }
     ensures { λ r. ⌜ r ≡ allZero (view (now (s .entry))) at k ⌝ }
 {
-    let mut i = 0;
-    while i < k {
-        if s[at + i] != 0 {
+    let mut zeros = 0;
+    while zeros < k {
+        if s[at + zeros] != 0 {
             return false;
         }
-        i += 1;
+        zeros += 1;
     }
     true
 }

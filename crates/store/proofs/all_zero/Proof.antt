@@ -27,10 +27,10 @@ shared-slice-read-if1 c = search needs
 returns : tie.Need-returns Inv-loop μ-loop
 returns c =
     let a = c .before .before .before .before .args in
-    sym (zero-not (view (a .s .now)) (a .at) (a .k) (c .before .before .before .loop .i) (omega arith) (λ e. omega arith))
+    sym (zero-not (view (a .s .now)) (a .at) (a .k) (c .before .before .before .loop .zeros) (omega arith) (λ e. omega arith))
 
-add-i : tie.Need-add-i Inv-loop μ-loop
-add-i c = search needs
+add-zeros : tie.Need-add-zeros Inv-loop μ-loop
+add-zeros c = search needs
 
 loop-less : tie.Need-loop-less Inv-loop μ-loop
 loop-less c = search needs
@@ -54,7 +54,7 @@ all-zero-spec =
     add-if1
     shared-slice-read-if1
     returns
-    add-i
+    add-zeros
     loop-less
     loop-again
     returns-2)

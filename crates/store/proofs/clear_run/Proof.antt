@@ -24,8 +24,8 @@ add-dst c = search needs
 slice-write-dst : tie.Need-slice-write-dst Inv-loop μ-loop
 slice-write-dst c = search needs
 
-add-i : tie.Need-add-i Inv-loop μ-loop
-add-i c = search needs
+add-cleared : tie.Need-add-cleared Inv-loop μ-loop
+add-cleared c = search needs
 
 loop-less : tie.Need-loop-less Inv-loop μ-loop
 loop-less c = search needs
@@ -36,9 +36,9 @@ loop-again c =
     let a = c .before .before .args in (
       search needs,
       simp length-set (omega arith),
-      view-set (l .dst) (a .to + l .i) 0 (omega arith)
-          ∙ ap (λ f. put f (a .to + l .i) 0) (l .inv .2)
-          ∙ paste-more (view (a .dst .now)) (a .to) zeros (l .i),
+      view-set (l .dst) (a .to + l .cleared) 0 (omega arith)
+          ∙ ap (λ f. put f (a .to + l .cleared) 0) (l .inv .2)
+          ∙ paste-more (view (a .dst .now)) (a .to) zeros (l .cleared),
     )
 
 same-length : tie.Need-same-length Inv-loop μ-loop
@@ -49,7 +49,7 @@ unfolding clear
 returns c =
     let l = c .before .loop in
     let a = c .before .before .args in
-    let e : l .i ≡ a .k = omega arith in
+    let e : l .cleared ≡ a .k = omega arith in
     l .inv .2 ∙ ap (λ k. paste (view (a .dst .now)) (a .to) k zeros) e
 
 pub clear-run-spec : {M : Type 1} → statement M
@@ -61,7 +61,7 @@ clear-run-spec =
     loop-holds
     add-dst
     slice-write-dst
-    add-i
+    add-cleared
     loop-less
     loop-again
     same-length

@@ -30,8 +30,8 @@ add-dst-2 c = search needs
 slice-write-dst : tie.Need-slice-write-dst Inv-loop μ-loop
 slice-write-dst c = search needs
 
-add-i : tie.Need-add-i Inv-loop μ-loop
-add-i c = search needs
+add-copied : tie.Need-add-copied Inv-loop μ-loop
+add-copied c = search needs
 
 loop-less : tie.Need-loop-less Inv-loop μ-loop
 loop-less c = search needs
@@ -40,12 +40,12 @@ loop-again : tie.Need-loop-again Inv-loop μ-loop
 loop-again c =
     let l = c .before .before .loop in
     let a = c .before .before .before .args in
-    let byte = getD (a .src .now) (a .at + l .i) 0 in (
+    let byte = getD (a .src .now) (a .at + l .copied) 0 in (
       search needs,
       simp length-set (omega arith),
-      view-set (l .dst) (a .to + l .i) byte (omega arith)
-          ∙ ap (λ f. put f (a .to + l .i) byte) (l .inv .2)
-          ∙ paste-more (view (a .dst .now)) (a .to) (from (view (a .src .now)) (a .at)) (l .i),
+      view-set (l .dst) (a .to + l .copied) byte (omega arith)
+          ∙ ap (λ f. put f (a .to + l .copied) byte) (l .inv .2)
+          ∙ paste-more (view (a .dst .now)) (a .to) (from (view (a .src .now)) (a .at)) (l .copied),
     )
 
 same-length : tie.Need-same-length Inv-loop μ-loop
@@ -55,7 +55,7 @@ returns : tie.Need-returns Inv-loop μ-loop
 returns c =
     let l = c .before .loop in
     let a = c .before .before .args in
-    let e : l .i ≡ a .k = omega arith in
+    let e : l .copied ≡ a .k = omega arith in
     l .inv .2 ∙ ap (λ k. paste (view (a .dst .now)) (a .to) k (from (view (a .src .now)) (a .at))) e
 
 pub copy-run-spec : {M : Type 1} → statement M
@@ -69,7 +69,7 @@ copy-run-spec =
     shared-slice-read-dst
     add-dst-2
     slice-write-dst
-    add-i
+    add-copied
     loop-less
     loop-again
     same-length

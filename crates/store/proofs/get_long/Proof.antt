@@ -9,20 +9,20 @@ use Rattle.store.proofs.get_long.Tie as tie
 get-word-requires : tie.Need-get-word-requires
 get-word-requires c κs = search needs
 
-add-result : tie.Need-add-result
-add-result c = search needs
+add-high : tie.Need-add-high
+add-high c = search needs
 
-shared-slice-read-result : tie.Need-shared-slice-read-result
-shared-slice-read-result c = search needs
+shared-slice-read-high : tie.Need-shared-slice-read-high
+shared-slice-read-high c = search needs
 
-cast-result : tie.Need-cast-result
-cast-result c = omega (arith, c .shared-slice-known2 .given (c .before .before .before .args .at + 2))
+cast-high : tie.Need-cast-high
+cast-high c = omega (arith, c .shared-slice-known2 .given (c .before .before .before .args .at + 2))
 
 mul-result : tie.Need-mul-result
 mul-result c = omega (arith, c .shared-slice-known2 .given (c .before .before .before .args .at + 2))
 
-add-result-2 : tie.Need-add-result-2
-add-result-2 c = omega (arith, c .shared-slice-known2 .given (c .before .before .before .args .at + 2))
+add-result : tie.Need-add-result
+add-result c = omega (arith, c .shared-slice-known2 .given (c .before .before .before .args .at + 2))
 
 returns : tie.Need-returns
 unfolding word long
@@ -33,9 +33,9 @@ get-long-spec =
     tie.close
     (tie.spec
     get-word-requires
-    add-result
-    shared-slice-read-result
-    cast-result
+    add-high
+    shared-slice-read-high
+    cast-high
     mul-result
-    add-result-2
+    add-result
     returns)

@@ -32,11 +32,12 @@ shared-slice-read-if1-2 c = search needs
 
 returns : tie.Need-returns Inv-loop μ-loop
 returns c =
-    let a = c .before .before .before .before .before .args in
-    sym (equal-not (view (a .f .now)) (a .a) (view (a .g .now)) (a .b) (a .k) (c .before .before .before .before .loop .i) (omega arith) (λ e. omega arith))
+    let l = c .before .before .before .before in
+    let a = l .before .args in
+    sym (equal-not (view (a .f .now)) (a .a) (view (a .g .now)) (a .b) (a .k) (l .loop .same) (omega arith) (λ e. omega arith))
 
-add-i : tie.Need-add-i Inv-loop μ-loop
-add-i c = search needs
+add-same : tie.Need-add-same Inv-loop μ-loop
+add-same c = search needs
 
 loop-less : tie.Need-loop-less Inv-loop μ-loop
 loop-less c = search needs
@@ -62,7 +63,7 @@ same-bytes-spec =
     add-if1-2
     shared-slice-read-if1-2
     returns
-    add-i
+    add-same
     loop-less
     loop-again
     returns-2)
