@@ -21,7 +21,8 @@ unfolding tests
 tests-at zero p h i l = absurd (omega arith)
 tests-at (suc k) p h i l = go (eqb i k) refl (p k) refl h (tests-at k p)
   where
-    go : (b : Bool) → eqb i k ≡ b → (c : Bool) → p k ≡ c → (c && tests k p) ≡ true → (tests k p ≡ true → (i : ℕ) → i < k → p i ≡ true) → p i ≡ true
+    go : (b : Bool) → eqb i k ≡ b → (c : Bool) → p k ≡ c → (c && tests k p) ≡ true
+        → (tests k p ≡ true → (i : ℕ) → i < k → p i ≡ true) → p i ≡ true
     go true e true f g r = rw (eqb-true i k e) f
     go false e true f g r = r g i (let q = eqb-false i k e in omega arith)
     go b e false f g r = absurd (false≢true g)
@@ -32,7 +33,9 @@ all f = tests 256 (λ x. tests 8 (λ i. tests 8 (λ j. f x i j)))
 
 all-at : (f : ℕ → ℕ → ℕ → Bool) → all f ≡ true → (x i j : ℕ) → x < 256 → i < 8 → j < 8 → f x i j ≡ true
 unfolding all
-all-at f h x i j p q r = tests-at 8 (λ j. f x i j) (tests-at 8 (λ i. tests 8 (λ j. f x i j)) (tests-at 256 (λ x. tests 8 (λ i. tests 8 (λ j. f x i j))) h x p) i q) j r
+all-at f h x i j p q r =
+    let byte = tests-at 256 (λ x. tests 8 (λ i. tests 8 (λ j. f x i j))) h x p in
+    tests-at 8 (λ j. f x i j) (tests-at 8 (λ i. tests 8 (λ j. f x i j)) byte i q) j r
 
 set-test : ℕ → ℕ → ℕ → Bool
 set-test x i j = eqb (bit (setBit x i) j) (bit x j + is i j * (1 - bit x i))
@@ -146,6 +149,11 @@ pub mapAt-in : (m n b : ℕ) → b < n → mapAt m b < m * 512 + mapBlocks n * 5
 unfolding mapAt mapBlocks
 mapAt-in m n b h = omega arith
 
+-- a block that is none of the map's has no byte of it
+pub mapAt-off : (m n z b : ℕ) → b < n → (m ≤ z → z < m + mapBlocks n → ⊥) → z * 512 ≤ mapAt m b → mapAt m b < z * 512 + 512 → ⊥
+unfolding mapAt mapBlocks
+mapAt-off m n z b h off g l = off (omega arith) (omega arith)
+
 pub free-most : (m : ℕ) (v : Bytes) (b : ℕ) → free m v b ≤ 1
 unfolding free
 free-most m v b = bit-most (v (mapAt m b)) (b % 8)
@@ -196,7 +204,8 @@ pub taken-in : (m : ℕ) (v : Bytes) (z i : ℕ) → z * 512 ≤ i → i < z * 5
 unfolding taken
 taken-in m v z i h l = clear-in _ (z * 512) 512 i h l
 
-pub taken-out : (m : ℕ) (v : Bytes) (z i : ℕ) → (z * 512 ≤ i → i < z * 512 + 512 → ⊥) → (i ≡ mapAt m z → ⊥) → taken m v z i ≡ v i
+pub taken-out : (m : ℕ) (v : Bytes) (z i : ℕ) → (z * 512 ≤ i → i < z * 512 + 512 → ⊥) → (i ≡ mapAt m z → ⊥)
+    → taken m v z i ≡ v i
 unfolding taken
 taken-out m v z i h k = clear-out _ (z * 512) 512 i h ∙ put-off v (mapAt m z) _ i k
 
@@ -231,7 +240,8 @@ room-le m v zero = omega arith
 room-le m v (suc n) = omega (arith, room-le m v n, free-most m v n)
 
 -- one block's bit differs by d
-pub room-one : (m : ℕ) (v w : Bytes) (y d n : ℕ) → ((b : ℕ) → b < n → free m w b ≡ free m v b + is y b * d) → y < n → room m w n ≡ room m v n + d
+pub room-one : (m : ℕ) (v w : Bytes) (y d n : ℕ) → ((b : ℕ) → b < n → free m w b ≡ free m v b + is y b * d) → y < n
+    → room m w n ≡ room m v n + d
 unfolding room
 room-one m v w y d zero f h = absurd (omega arith)
 room-one m v w y d (suc n) f h = go (eqb y n) refl (λ k. room-one m v w y d n (λ b l. f b (omega arith)) k)
@@ -321,7 +331,8 @@ first-one m v b k r s f g = go (ltb r s) refl (ltb s r) refl
     go false p false q = omega (arith, ltb-false r s p, ltb-false s r q)
 
 -- The lowest free block, and where a search for it may start.
-pub lowest-from : (m : ℕ) (v : Bytes) (n h : ℕ) → h ≤ n → ((c : ℕ) → c < h → free m v c ≡ 0) → lowest m v n ≡ firstFree m v h (n - h)
+pub lowest-from : (m : ℕ) (v : Bytes) (n h : ℕ) → h ≤ n → ((c : ℕ) → c < h → free m v c ≡ 0)
+    → lowest m v n ≡ firstFree m v h (n - h)
 unfolding lowest
 lowest-from m v n h l f =
     let g = first-is m v h (n - h) in
@@ -452,6 +463,29 @@ byte-stop c r (suc j) f =
     let e : r + suc j ≡ suc (r + j) = omega arith in
     rw (e, byteOf, f (r + j) (omega arith)) (omega (arith, byte-stop c r j f))
 
+-- Two images with the same map.
+pub first-same : (m : ℕ) (v w : Bytes) (b k : ℕ) → ((c : ℕ) → b ≤ c → c < b + k → free m w c ≡ free m v c)
+    → firstFree m w b k ≡ firstFree m v b k
+first-same m v w b k f =
+    let g = first-is m v b k in
+    first-one m w b k _ _ (first-is m w b k)
+    (record { from = g .from; most = g .most; found = λ h. f _ (g .from) h ∙ g .found h; below = λ c h l. f c h (omega arith) ∙ g .below c h l })
+
+abbrev pub MapSame : ℕ → ℕ → Bytes → Bytes → Type 0
+MapSame m n v w = (i : ℕ) → m * 512 ≤ i → i < m * 512 + mapBlocks n * 512 → w i ≡ v i
+
+module _ (m n : ℕ) (v w : Bytes) (same : MapSame m n v w) where
+  pub same-free : (b : ℕ) → b < n → free m w b ≡ free m v b
+  unfolding mapAt
+  same-free b h = free-same m v w b (same (mapAt m b) (omega arith) (mapAt-in m n b h))
+
+  pub same-room : room m w n ≡ room m v n
+  same-room = room-same m v w n same-free
+
+  pub same-lowest : lowest m w n ≡ lowest m v n
+  unfolding lowest
+  same-lowest = first-same m v w 0 n (λ c g h. same-free c (omega arith))
+
 -- The map of a new volume: the blocks from a to n - 1 are free.
 pub fresh-yes : (a n b : ℕ) → a ≤ b → b < n → one-if (leb a b and ltb b n) ≡ 1
 unfolding _and_
@@ -561,6 +595,9 @@ rest-same m v w n f e =
     rest-by m w n (λ h. rw (f (n / 8) (omega arith) (omega arith)) (rest-low m v n e h))
     (λ j h l. f j (omega arith) l ∙ rest-tail m v n e j h l)
 
+pub same-rest : (m n : ℕ) (v w : Bytes) → MapSame m n v w → restClear m v n ≡ true → restClear m w n ≡ true
+same-rest m n v w same e = rest-same m v w n (λ j h l. same (m * 512 + j) (omega arith) (omega arith)) e
+
 -- a block of the volume given back or taken
 module _ (m : ℕ) (v : Bytes) (y n : ℕ) (octets : Octets v) (low : y < n) (clear-rest : restClear m v n ≡ true) where
   after-y : (j : ℕ) → (n + 7) / 8 ≤ j → m * 512 + j ≡ mapAt m y → ⊥
@@ -594,7 +631,8 @@ module _ (m : ℕ) (v : Bytes) (y n : ℕ) (octets : Octets v) (low : y < n) (cl
           rw (a, taken-at m v y (rw a at o), clear-low (v (mapAt m y)) (y % 8) (n % 8) (octets (mapAt m y)) (omega arith) (omega arith))
           (rw a at (rest-low m v n clear-rest h))
 
-pub fresh-rest : (a n m : ℕ) (v : Bytes) → ((j : ℕ) → j < mapBlocks n * 512 → v (m * 512 + j) ≡ freshMap a n j) → restClear m v n ≡ true
+pub fresh-rest : (a n m : ℕ) (v : Bytes) → ((j : ℕ) → j < mapBlocks n * 512 → v (m * 512 + j) ≡ freshMap a n j)
+    → restClear m v n ≡ true
 unfolding mapAt mapBlocks
 fresh-rest a n m v f =
     rest-by m v n (λ h. rw (f (n / 8) (omega arith)) (fresh-low a n)) (λ j h l. f j l ∙ fresh-zero a n j (omega arith))
