@@ -1,0 +1,42 @@
+use borrow.Author.Needs.{needs}
+use Rattle.names.proofs.alike.Statement.{statement}
+use Rattle.names.proofs.alike.Tie as tie
+use Rattle.names.proofs.alike.Reads as reads
+use Rattle.names.proofs.alike.Lts as lts
+use Rattle.names.proofs.are_same_bytes.Reads as are-same-bytes-reads
+use Rattle.names.proofs.wide.Reads as wide-reads
+
+-- src/lib.rt:176:13
+shared-slice-read-n : tie.Need-shared-slice-read-n
+shared-slice-read-n c = search needs
+
+-- src/lib.rt:177:13
+shared-slice-read-if1 : tie.Need-shared-slice-read-if1
+shared-slice-read-if1 c = search needs
+
+-- src/lib.rt:178:30
+wide-requires : tie.Need-wide-requires
+wide-requires c κs = search needs
+
+-- src/lib.rt:178:9
+are-same-bytes-requires : tie.Need-are-same-bytes-requires
+are-same-bytes-requires c κs = search needs
+
+-- src/lib.rt:172:1
+returns : tie.Need-returns
+returns c = search needs
+
+-- src/lib.rt:172:1
+returns-2 : tie.Need-returns-2
+returns-2 c = search needs
+
+pub alike-spec : {M : Type 1} → statement M
+alike-spec =
+    tie.close
+    (tie.spec
+    shared-slice-read-n
+    shared-slice-read-if1
+    wide-requires
+    are-same-bytes-requires
+    returns
+    returns-2)

@@ -1,0 +1,48 @@
+use borrow.Author.Needs.{needs}
+use Rattle.names.proofs.is_capital_name.Statement.{statement}
+use Rattle.names.proofs.is_capital_name.Tie as tie
+use Rattle.names.proofs.is_capital_name.Reads as reads
+use Rattle.names.proofs.is_capital_name.Lts as lts
+use Rattle.names.proofs.are_capitals.Reads as are-capitals-reads
+use Rattle.names.proofs.is_proper_between.Reads as is-proper-between-reads
+use Rattle.names.proofs.wide.Reads as wide-reads
+
+-- src/lib.rt:134:18
+shared-slice-read-wide : tie.Need-shared-slice-read-wide
+shared-slice-read-wide c = search needs
+
+-- src/lib.rt:134:9
+wide-requires : tie.Need-wide-requires
+wide-requires c κs = search needs
+
+-- src/lib.rt:135:35
+add-is-proper-between : tie.Need-add-is-proper-between
+add-is-proper-between c = search needs
+
+-- src/lib.rt:135:8
+is-proper-between-requires : tie.Need-is-proper-between-requires
+is-proper-between-requires c κs = search needs
+
+-- src/lib.rt:136:9
+are-capitals-requires : tie.Need-are-capitals-requires
+are-capitals-requires c κs = search needs
+
+-- src/lib.rt:130:1
+returns : tie.Need-returns
+returns c = search needs
+
+-- src/lib.rt:130:1
+returns-2 : tie.Need-returns-2
+returns-2 c = search needs
+
+pub is-capital-name-spec : {M : Type 1} → statement M
+is-capital-name-spec =
+    tie.close
+    (tie.spec
+    shared-slice-read-wide
+    wide-requires
+    add-is-proper-between
+    is-proper-between-requires
+    are-capitals-requires
+    returns
+    returns-2)

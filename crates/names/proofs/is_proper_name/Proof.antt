@@ -1,0 +1,17 @@
+use borrow.Author.Needs.{needs}
+use Rattle.names.proofs.is_proper_name.Statement.{statement}
+use Rattle.names.proofs.is_proper_name.Tie as tie
+use Rattle.names.proofs.is_proper_name.Reads as reads
+use Rattle.names.proofs.is_proper_name.Lts as lts
+use Rattle.names.proofs.is_proper_between.Reads as is-proper-between-reads
+
+-- src/lib.rt:110:5
+is-proper-between-requires : tie.Need-is-proper-between-requires
+is-proper-between-requires c κs = search needs
+
+-- src/lib.rt:107:1
+returns : tie.Need-returns
+returns c = search needs
+
+pub is-proper-name-spec : {M : Type 1} → statement M
+is-proper-name-spec = tie.close (tie.spec is-proper-between-requires returns)

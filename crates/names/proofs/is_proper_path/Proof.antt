@@ -1,0 +1,80 @@
+use borrow.Author.Needs.{needs}
+use Rattle.names.proofs.is_proper_path.Statement.{statement}
+use Rattle.names.proofs.is_proper_path.Tie as tie
+use Rattle.names.proofs.is_proper_path.Reads as reads
+use Rattle.names.proofs.is_proper_path.Lts as lts
+use Rattle.names.proofs.Cursor.new.Reads as new-reads
+use Rattle.names.proofs.Cursor.step.Reads as step-reads
+
+abbrev Inv-loop : tie.InvT-loop
+Inv-loop path c₀ c = ?
+
+abbrev μ-loop : tie.MeasureT-loop
+μ-loop path c₀ c = ?
+
+-- src/lib.rt:233:9
+returns : tie.Need-returns Inv-loop μ-loop
+returns c = search needs
+
+-- src/lib.rt:236:9
+returns-2 : tie.Need-returns-2 Inv-loop μ-loop
+returns-2 c = search needs
+
+-- src/lib.rt:238:9
+new-requires : tie.Need-new-requires Inv-loop μ-loop
+new-requires c κs = search needs
+
+-- src/lib.rt:239:5
+loop-holds : tie.Need-loop-holds Inv-loop μ-loop
+loop-holds c = search needs
+
+-- src/lib.rt:240:15
+step-requires : tie.Need-step-requires Inv-loop μ-loop
+step-requires c κs = search needs
+
+-- src/lib.rt:244:17
+enum-known-next : tie.Need-enum-known-next Inv-loop μ-loop
+enum-known-next c = search needs
+
+-- src/lib.rt:239:5
+loop-less : tie.Need-loop-less Inv-loop μ-loop
+loop-less c = search needs
+
+-- src/lib.rt:239:5
+loop-again : tie.Need-loop-again Inv-loop μ-loop
+loop-again c = search needs
+
+-- src/lib.rt:249:17
+enum-told : tie.Need-enum-told Inv-loop μ-loop
+enum-told c = search needs
+
+-- src/lib.rt:249:17
+returns-3 : tie.Need-returns-3 Inv-loop μ-loop
+returns-3 c = search needs
+
+-- src/lib.rt:252:17
+enum-told-2 : tie.Need-enum-told-2 Inv-loop μ-loop
+enum-told-2 c = search needs
+
+-- src/lib.rt:252:17
+returns-4 : tie.Need-returns-4 Inv-loop μ-loop
+returns-4 c = search needs
+
+pub is-proper-path-spec : {M : Type 1} → statement M
+is-proper-path-spec =
+    tie.close
+    (tie.spec
+    Inv-loop
+    μ-loop
+    returns
+    returns-2
+    new-requires
+    loop-holds
+    step-requires
+    enum-known-next
+    loop-less
+    loop-again
+    enum-told
+    returns-3
+    enum-told-2
+    returns-4)

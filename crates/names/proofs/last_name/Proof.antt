@@ -1,0 +1,30 @@
+use borrow.Author.Needs.{needs}
+use Rattle.names.proofs.last_name.Statement.{statement}
+use Rattle.names.proofs.last_name.Tie as tie
+use Rattle.names.proofs.last_name.Reads as reads
+use Rattle.names.proofs.last_name.Lts as lts
+use Rattle.names.proofs.last_start.Reads as last-start-reads
+
+-- src/lib.rt:276:9
+last-start-requires : tie.Need-last-start-requires
+last-start-requires c κs = search needs
+
+-- src/lib.rt:277:5
+sub-result : tie.Need-sub-result
+sub-result c = search needs
+
+-- src/lib.rt:277:5
+part-result-start : tie.Need-part-result-start
+part-result-start c = search needs
+
+-- src/lib.rt:277:5
+part-result-end : tie.Need-part-result-end
+part-result-end c = search needs
+
+-- src/lib.rt:273:1
+returns : tie.Need-returns
+returns c = search needs
+
+pub last-name-spec : {M : Type 1} → statement M
+last-name-spec =
+    tie.close (tie.spec last-start-requires sub-result part-result-start part-result-end returns)
