@@ -1,9 +1,10 @@
 -- A step of the cursor over a path, where the last name begins, and names stored in two images.
 use Prim.Native.Nat.{ℕ, zero, suc, _+_, _-_}
 use mathlib.Core.Bool.{Bool, true, false}
+use mathlib.Core.List.{List, [], _∷_}
 use lib.Dec.{ltb, eqb}
 use Rattle.model.specs.Bytes.{Bytes, equalBytes, _and_}
-use Rattle.model.specs.Names.{slash, nameEnd, properName, nameSize}
+use Rattle.model.specs.Names.{slash, nameEnd, properName, nameSize, Part, partsFrom}
 use Rattle.names.specs.declared.Cursor.{Cursor}
 use Rattle.names.specs.declared.Step.{Step}
 use Rattle.names.specs.declared.Step.the-variants.{Name, End, Bad}
@@ -26,6 +27,15 @@ stepAt p n a = elim (ltb a n) [
   | true ↦ elim (properStep p n a) [ true ↦ found (a + 1) (stepEnd p n a) | false ↦ Bad ]
   | false ↦ End
 ]
+
+-- the parts of the path p of n bytes that a cursor at a has still before it
+abbrev pub partsLeft : Bytes → ℕ → ℕ → List Part
+partsLeft p n a = partsFrom p n a (n - a)
+
+-- the last of a list of parts, x where there is none
+unfoldable pub lastPart : Part → List Part → Part
+lastPart x [] = x
+lastPart x (y ∷ ys) = lastPart y ys
 
 -- one past the last slash among the first n bytes, 0 where there is none
 unfoldable pub lastStart : Bytes → ℕ → ℕ

@@ -1,3 +1,8 @@
+use native.Mathlib.Omega.{arith}
+use mathlib.Core.Path.{_≡_, sym, ap, _∙_}
+use borrow.Author.Tests.{eq-eqb, ne-eqb}
+use Rattle.model.specs.Bytes.{view, equalBytes, _and_}
+use Rattle.names.specs.Steps.{alikeNames}
 use borrow.Author.Needs.{needs}
 use Rattle.names.proofs.alike.Statement.{statement}
 use Rattle.names.proofs.alike.Tie as tie
@@ -24,11 +29,16 @@ are-same-bytes-requires c κs = search needs
 
 -- src/lib.rt:172:1
 returns : tie.Need-returns
-returns c = search needs
+unfolding alikeNames _and_
+returns c =
+    let a = c .before .before .before .before .before .before .before .args in
+    rw (eq-eqb _ _ (c .before .before .if1 .taken))
+    (c .are-same-bytes .ensures ∙ ap (equalBytes (view (a .a .now)) 1 (view (a .b .now)) 1) (c .before .wide .ensures))
 
 -- src/lib.rt:172:1
 returns-2 : tie.Need-returns-2
-returns-2 c = search needs
+unfolding alikeNames _and_
+returns-2 c = rw (ne-eqb _ _ (c .if1 .left))
 
 pub alike-spec : {M : Type 1} → statement M
 alike-spec =

@@ -1,3 +1,10 @@
+use mathlib.Core.Bool.{true, false}
+use native.Mathlib.Omega.{arith}
+use mathlib.Core.Path.{_≡_, sym, ap, _∙_}
+use Prim.Native.Nat.{_+_, _-_, _%_}
+use lib.ListN.{getD}
+use Rattle.model.specs.Bytes.{view, equalBytes, _and_}
+use Rattle.model.specs.Names.{capitalName, properName, capitals}
 use borrow.Author.Needs.{needs}
 use Rattle.names.proofs.is_capital_name.Statement.{statement}
 use Rattle.names.proofs.is_capital_name.Tie as tie
@@ -29,11 +36,21 @@ are-capitals-requires c κs = search needs
 
 -- src/lib.rt:130:1
 returns : tie.Need-returns
-returns c = search needs
+unfolding capitalName _and_
+returns c =
+    let s = c .before .before .before .before .before .before .args .slot .now in
+    let k : 1 + c .before .before .before .wide .result - 1 ≡ getD s 0 0 % 16 = omega arith in
+    let q : properName (view s) 1 (getD s 0 0 % 16) ≡ true = rw (← k) (sym (c .before .before .is-proper-between .ensures) ∙ c .before .if1 .taken) in
+    rw q (c .are-capitals .ensures ∙ ap (equalBytes (view s) 1 (capitals (view s)) 1) (c .before .before .before .wide .ensures))
 
 -- src/lib.rt:130:1
 returns-2 : tie.Need-returns-2
-returns-2 c = search needs
+unfolding capitalName _and_
+returns-2 c =
+    let s = c .before .before .before .before .before .args .slot .now in
+    let k : 1 + c .before .before .wide .result - 1 ≡ getD s 0 0 % 16 = omega arith in
+    let q : properName (view s) 1 (getD s 0 0 % 16) ≡ false = rw (← k) (sym (c .before .is-proper-between .ensures) ∙ c .if1 .left) in
+    rw q
 
 pub is-capital-name-spec : {M : Type 1} → statement M
 is-capital-name-spec =

@@ -1,3 +1,9 @@
+use native.Mathlib.Omega.{arith}
+use mathlib.Core.Path.{sym, _∙_}
+use Prim.Native.Nat.{_-_}
+use Rattle.model.specs.Bytes.{_and_}
+use Rattle.model.specs.Names.{properName}
+use Rattle.names.proofs.Laws.{within-in, within-below, within-above}
 use borrow.Author.Needs.{needs}
 use Rattle.names.proofs.is_proper_between.Statement.{statement}
 use Rattle.names.proofs.is_proper_between.Tie as tie
@@ -12,11 +18,13 @@ sub-size c = search needs
 
 -- src/lib.rt:95:9
 returns : tie.Need-returns
-returns c = search needs
+unfolding properName _and_
+returns c = let a = c .before .before .args in rw (within-below 1 15 (a .end - a .start) (omega arith))
 
 -- src/lib.rt:98:9
 returns-2 : tie.Need-returns-2
-returns-2 c = search needs
+unfolding properName _and_
+returns-2 c = let a = c .before .before .before .args in rw (within-above 1 15 (a .end - a .start) (omega arith))
 
 -- src/lib.rt:100:18
 shared-slice-read-is-letter : tie.Need-shared-slice-read-is-letter
@@ -32,11 +40,18 @@ are-name-bytes-requires c κs = search needs
 
 -- src/lib.rt:89:1
 returns-3 : tie.Need-returns-3
-returns-3 c = search needs
+unfolding properName _and_
+returns-3 c =
+    let a = c .before .before .before .before .before .before .before .args in
+    rw (within-in 1 15 (a .end - a .start) (omega arith) (omega arith), sym (c .before .before .is-letter .ensures) ∙ c .before .if3 .taken)
+    (c .are-name-bytes .ensures)
 
 -- src/lib.rt:89:1
 returns-4 : tie.Need-returns-4
-returns-4 c = search needs
+unfolding properName _and_
+returns-4 c =
+    let a = c .before .before .before .before .before .before .args in
+    rw (within-in 1 15 (a .end - a .start) (omega arith) (omega arith), sym (c .before .is-letter .ensures) ∙ c .if3 .left)
 
 pub is-proper-between-spec : {M : Type 1} → statement M
 is-proper-between-spec =

@@ -1,3 +1,12 @@
+use native.Mathlib.Omega.{arith}
+use mathlib.Core.Path.{_≡_, sym, ap, _∙_}
+use Prim.Native.Nat.{_≤_, _<_, _+_, _-_}
+use lib.ListN.{length}
+use Rattle.model.specs.Bytes.{view, _and_}
+use Rattle.model.specs.Names.{parts, properParts, properPath}
+use Rattle.names.specs.Steps.{partsLeft}
+use Rattle.names.proofs.Laws.{within-in, within-below, within-above}
+use Rattle.names.proofs.CursorLaws.{left-start, left-more, left-done}
 use borrow.Author.Needs.{needs}
 use Rattle.names.proofs.is_proper_path.Statement.{statement}
 use Rattle.names.proofs.is_proper_path.Tie as tie
@@ -7,18 +16,21 @@ use Rattle.names.proofs.Cursor.new.Reads as new-reads
 use Rattle.names.proofs.Cursor.step.Reads as step-reads
 
 abbrev Inv-loop : tie.InvT-loop
-Inv-loop path c₀ c = ?
+Inv-loop path c₀ c =
+    (c .at ≤ length path) × (properPath (view path) (length path) ≡ properParts (view path) (partsLeft (view path) (length path) (c .at)))
 
 abbrev μ-loop : tie.MeasureT-loop
-μ-loop path c₀ c = ?
+μ-loop path c₀ c = length path - c .at
 
 -- src/lib.rt:233:9
 returns : tie.Need-returns Inv-loop μ-loop
-returns c = search needs
+unfolding properPath _and_
+returns c = let s = c .before .before .args .path .now in rw (within-below 1 64 (length s) (omega arith))
 
 -- src/lib.rt:236:9
 returns-2 : tie.Need-returns-2 Inv-loop μ-loop
-returns-2 c = search needs
+unfolding properPath _and_
+returns-2 c = let s = c .before .before .before .args .path .now in rw (within-above 1 64 (length s) (omega arith))
 
 -- src/lib.rt:238:9
 new-requires : tie.Need-new-requires Inv-loop μ-loop
@@ -26,7 +38,10 @@ new-requires c κs = search needs
 
 -- src/lib.rt:239:5
 loop-holds : tie.Need-loop-holds Inv-loop μ-loop
-loop-holds c = search needs
+unfolding properPath _and_
+loop-holds c =
+    let s = c .before .before .before .before .args .path .now in
+    (?, ?)
 
 -- src/lib.rt:240:15
 step-requires : tie.Need-step-requires Inv-loop μ-loop
@@ -38,11 +53,11 @@ enum-known-next c = search needs
 
 -- src/lib.rt:239:5
 loop-less : tie.Need-loop-less Inv-loop μ-loop
-loop-less c = search needs
+loop-less c = ?
 
 -- src/lib.rt:239:5
 loop-again : tie.Need-loop-again Inv-loop μ-loop
-loop-again c = search needs
+loop-again c = ?
 
 -- src/lib.rt:249:17
 enum-told : tie.Need-enum-told Inv-loop μ-loop
@@ -50,7 +65,7 @@ enum-told c = search needs
 
 -- src/lib.rt:249:17
 returns-3 : tie.Need-returns-3 Inv-loop μ-loop
-returns-3 c = search needs
+returns-3 c = ?
 
 -- src/lib.rt:252:17
 enum-told-2 : tie.Need-enum-told-2 Inv-loop μ-loop
@@ -58,7 +73,7 @@ enum-told-2 c = search needs
 
 -- src/lib.rt:252:17
 returns-4 : tie.Need-returns-4 Inv-loop μ-loop
-returns-4 c = search needs
+returns-4 c = ?
 
 pub is-proper-path-spec : {M : Type 1} → statement M
 is-proper-path-spec =

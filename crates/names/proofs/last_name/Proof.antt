@@ -1,3 +1,8 @@
+use native.Mathlib.Omega.{arith}
+use mathlib.Core.Path.{_≡_, ap, _∙_}
+use Prim.Native.Nat.{_-_, _≤_}
+use lib.ListN.{length, take, drop, length-drop}
+use lib.Seq.{take-all}
 use borrow.Author.Needs.{needs}
 use Rattle.names.proofs.last_name.Statement.{statement}
 use Rattle.names.proofs.last_name.Tie as tie
@@ -23,7 +28,11 @@ part-result-end c = search needs
 
 -- src/lib.rt:273:1
 returns : tie.Need-returns
-returns c = search needs
+returns c =
+    let s = c .before .before .before .args .path .now in
+    let a = c .before .last-start .result in
+    let h : length (drop a s) ≤ length s - a = simp length-drop (omega arith) in
+    take-all (length s - a) (drop a s) h ∙ ap (λ n. drop n s) (c .before .last-start .ensures .0)
 
 pub last-name-spec : {M : Type 1} → statement M
 last-name-spec =

@@ -1,3 +1,8 @@
+use native.Mathlib.Omega.{arith}
+use mathlib.Core.Path.{_≡_, sym, ap, _∙_}
+use borrow.Author.Tests.{eq-eqb, ne-eqb}
+use Rattle.model.specs.Bytes.{_and_}
+use Rattle.model.specs.Names.{sameName}
 use borrow.Author.Needs.{needs}
 use Rattle.names.proofs.same_name.Statement.{statement}
 use Rattle.names.proofs.same_name.Tie as tie
@@ -20,11 +25,13 @@ are-capitals-requires c κs = search needs
 
 -- src/lib.rt:143:1
 returns : tie.Need-returns
-returns c = search needs
+unfolding sameName _and_
+returns c = rw (eq-eqb _ _ (sym (c .before .before .wide .ensures) ∙ c .before .if1 .taken)) (c .are-capitals .ensures)
 
 -- src/lib.rt:143:1
 returns-2 : tie.Need-returns-2
-returns-2 c = search needs
+unfolding sameName _and_
+returns-2 c = rw (ne-eqb _ _ (λ e. c .if1 .left (c .before .wide .ensures ∙ e)))
 
 pub same-name-spec : {M : Type 1} → statement M
 same-name-spec =
