@@ -3,7 +3,7 @@ use mathlib.Core.Path.{_≡_, refl, sym, ap, _∙_}
 use mathlib.Core.Bool.{Bool, true, false}
 use mathlib.Core.List.{List, [], _∷_}
 use Prim.Native.Nat.{ℕ, zero, suc, _+_, _-_, _*_, _≤_, _<_}
-use lib.ListN.{length}
+use lib.ListN.{length, getD}
 use lib.Dec.{eqb, leb, ltb}
 use native.Mathlib.Omega.{arith}
 use borrow.Author.Tests.{eqb-true, eqb-false, ltb-true, ltb-false, lt-ltb, le-ltb}
@@ -154,3 +154,132 @@ module _ (p : Bytes) (n : ℕ) where
       let e : n - a ≡ suc (n - (a + 1)) = omega arith in
       let f : partsFrom p n (stepEnd p n a) (n - (a + 1)) ≡ partsLeft p n (stepEnd p n a) = fuel (stepEnd p n a) (n - (a + 1)) (n - stepEnd p n a) (omega arith) (omega arith) in
       rw (e, parts-more p n a (n - (a + 1)) h, f)
+
+-- what a proper name, a proper step and a proper list of parts are made of
+pub name-size : (p : Bytes) (a k : ℕ) → properName p a k ≡ true → (1 ≤ k) × (k ≤ nameMost)
+unfolding properName
+name-size p a k e = within-true 1 nameMost k (and-left _ _ e)
+
+module _ (p : Bytes) (n a : ℕ) (h : properStep p n a ≡ true) where
+  pub step-slash : p a ≡ slash
+  unfolding properStep
+  step-slash = eqb-true _ _ (and-left _ _ h)
+
+  pub step-proper : properName p (a + 1) (stepEnd p n a - (a + 1)) ≡ true
+  unfolding properStep
+  step-proper = and-right _ _ h
+
+  pub step-size : (1 ≤ stepEnd p n a - (a + 1)) × (stepEnd p n a - (a + 1) ≤ nameMost)
+  step-size = name-size p (a + 1) (stepEnd p n a - (a + 1)) step-proper
+
+module _ (p : Bytes) (x : Part) (xs : List Part) where
+  head-by : (b : Bool) → (eqb (p (x .start - 1)) slash and properName p (x .start) (x .size)) ≡ b → properParts p (x ∷ xs) ≡ true
+      → ((eqb (p (x .start - 1)) slash and properName p (x .start) (x .size)) ≡ true) × (properParts p xs ≡ true)
+  unfolding properParts
+  head-by true e h = (e, rw (e, properParts) at h)
+  head-by false e h = never (sym (rw (e, properParts) at h))
+
+  pub proper-head : properParts p (x ∷ xs) ≡ true → (p (x .start - 1) ≡ slash) × (properName p (x .start) (x .size) ≡ true)
+  proper-head h =
+      let t = head-by (eqb (p (x .start - 1)) slash and properName p (x .start) (x .size)) refl h .0 in
+      (eqb-true _ _ (and-left _ _ t), and-right _ _ t)
+
+  pub proper-tail : properParts p (x ∷ xs) ≡ true → properParts p xs ≡ true
+  proper-tail h = head-by (eqb (p (x .start - 1)) slash and properName p (x .start) (x .size)) refl h .1
+
+-- each part of a proper list has a proper name, behind a slash
+pub proper-each : (p : Bytes) (xs : List Part) (x : Part) (i : ℕ) → properParts p xs ≡ true → i < length xs
+    → (p (getD xs i x .start - 1) ≡ slash) × (properName p (getD xs i x .start) (getD xs i x .size) ≡ true)
+proper-each p [] x i h l = absurd (let w : ⊥ = omega arith in w)
+proper-each p (y ∷ ys) x zero h l = proper-head p y ys h
+proper-each p (y ∷ ys) x (suc i) h l = proper-each p ys x i (proper-tail p y ys h) (omega arith)
+
+-- the cursor against the parts that are left
+module _ (p : Bytes) (n a : ℕ) (here : a < n) where
+  rest-by : (b : Bool) → properStep p n a ≡ b → properParts p (partsLeft p n a) ≡ true
+      → (properStep p n a ≡ true) × (properParts p (partsLeft p n (stepEnd p n a)) ≡ true)
+  rest-by true e h = (e, sym (ap (properParts p) (left-more p n a here) ∙ proper-good p n a _ e) ∙ h)
+  rest-by false e h = never (sym h ∙ ap (properParts p) (left-more p n a here) ∙ proper-bad p n a _ e)
+
+  -- where the parts left are proper, the step finds the first of them and leaves the others
+  pub left-proper : properParts p (partsLeft p n a) ≡ true → properStep p n a ≡ true
+  left-proper h = rest-by (properStep p n a) refl h .0
+
+  pub left-name : properParts p (partsLeft p n a) ≡ true → stepAt p n a ≡ found (a + 1) (stepEnd p n a)
+  left-name h = step-name p n a here (left-proper h)
+
+  pub left-rest : properParts p (partsLeft p n a) ≡ true → properParts p (partsLeft p n (stepEnd p n a)) ≡ true
+  left-rest h = rest-by (properStep p n a) refl h .1
+
+  pub left-good : properStep p n a ≡ true → properParts p (partsLeft p n a) ≡ properParts p (partsLeft p n (stepEnd p n a))
+  left-good e = ap (properParts p) (left-more p n a here) ∙ proper-good p n a _ e
+
+  pub left-bad : properStep p n a ≡ false → properParts p (partsLeft p n a) ≡ false
+  left-bad e = ap (properParts p) (left-more p n a here) ∙ proper-bad p n a _ e
+
+-- what a caller of the cursor knows when it holds a name
+module _ (p : Bytes) (n a s e : ℕ) (c : Cursor) (w : Stepped p n a s e c) where
+  pub stepped-bounds : (a + 2 ≤ e) × (e ≤ n)
+  stepped-bounds =
+      let t = step-size p n a (w .proper) in
+      let u = step-fits p n a (w .before) in
+      let x : e ≡ stepEnd p n a = w .stop in
+      (omega arith, omega arith)
+
+  pub stepped-name : (p a ≡ slash) × (properName p s (e - s) ≡ true)
+  stepped-name = (step-slash p n a (w .proper), rw (w .start, w .stop) (step-proper p n a (w .proper)))
+
+  pub stepped-parts : (k : ℕ) → partsFrom p n a (suc k) ≡ part s (e - s) ∷ partsFrom p n e k
+  stepped-parts k = rw (w .start, w .stop) (parts-more p n a k (w .before))
+
+  pub stepped-left : partsLeft p n a ≡ part s (e - s) ∷ partsLeft p n e
+  stepped-left = rw (w .start, w .stop) (left-more p n a (w .before))
+
+  pub stepped-proper : properParts p (partsLeft p n a) ≡ properParts p (partsLeft p n e)
+  stepped-proper = rw (w .stop) (left-good p n a (w .before) (w .proper))
+
+-- a name takes two bytes at least
+module _ (p : Bytes) (n : ℕ) where
+  most-by : (a k : ℕ) (b : Bool) → ltb a n ≡ b → properParts p (partsLeft p n a) ≡ true
+      → (properParts p (partsLeft p n (stepEnd p n a)) ≡ true → 2 * length (partsLeft p n (stepEnd p n a)) ≤ n - stepEnd p n a)
+      → 2 * length (partsLeft p n a) ≤ n - a
+  most-by a k true e h f =
+      let l : a < n = ltb-true _ _ e in
+      let t = step-size p n a (left-proper p n a l h) in
+      let u = step-fits p n a l in
+      let r = f (left-rest p n a l h) in
+      rw (left-more p n a l) (omega arith)
+  most-by a k false e h f = rw (left-done p n a (ltb-false _ _ e)) (omega arith)
+
+  most : (k a : ℕ) → n - a ≤ k → properParts p (partsLeft p n a) ≡ true → 2 * length (partsLeft p n a) ≤ n - a
+  most zero a l h = rw (left-done p n a (omega arith)) (omega arith)
+  most (suc k) a l h =
+      let s : a + 1 ≤ stepEnd p n a = step-after p n a in
+      most-by a k (ltb a n) refl h (λ g. most k (stepEnd p n a) (omega arith) g)
+
+  pub left-most : (a : ℕ) → properParts p (partsLeft p n a) ≡ true → 2 * length (partsLeft p n a) ≤ n - a
+  left-most a h = most (n - a) a (omega arith) h
+
+-- where no slash stands in k bytes from b on, the last name begins where it did before them
+module _ (p : Bytes) where
+  same-by : (b k : ℕ) (t : Bool) → eqb (p b) slash ≡ t → nameEnd p b (suc k) ≡ b + suc k
+      → (nameEnd p (b + 1) k ≡ b + 1 + k → lastStart p (b + 1 + k) ≡ lastStart p (b + 1))
+      → lastStart p (b + suc k) ≡ lastStart p b
+  same-by b k true e h f =
+      let x : nameEnd p b (suc k) ≡ b = end-here p b (suc k) (eqb-true _ _ e) in
+      absurd (let w : ⊥ = omega arith in w)
+  same-by b k false e h f =
+      let x : nameEnd p b (suc k) ≡ nameEnd p (b + 1) k = end-more p b (suc k) k refl (eqb-false _ _ e) in
+      let y : b + suc k ≡ b + 1 + k = omega arith in
+      rw y (f (omega arith) ∙ last-more p (b + 1) b (omega arith) (eqb-false _ _ e))
+
+  pub last-same : (b k : ℕ) → nameEnd p b k ≡ b + k → lastStart p (b + k) ≡ lastStart p b
+  last-same b zero h = let y : b + 0 ≡ b = omega arith in rw y
+  last-same b (suc k) h = same-by b k (eqb (p b) slash) refl h (λ g. last-same (b + 1) k g)
+
+  -- the step that ends with the path has found the last name
+  pub last-step : (n a : ℕ) → a < n → properStep p n a ≡ true → stepEnd p n a ≡ n → lastStart p n ≡ a + 1
+  last-step n a l h e =
+      let y : a + 1 + (n - (a + 1)) ≡ n = omega arith in
+      let z : nameEnd p (a + 1) (n - (a + 1)) ≡ a + 1 + (n - (a + 1)) = e ∙ sym y in
+      (rw y at (last-same (a + 1) (n - (a + 1)) z)) ∙ last-here p (a + 1) a (omega arith) (step-slash p n a h)

@@ -1,12 +1,13 @@
 -- One step of each test on a run of bytes, for the loops that make it. Assumes nothing.
 use mathlib.Core.Path.{_≡_, refl, sym, ap, _∙_}
 use mathlib.Core.Bool.{Bool, true, false}
+use mathlib.Core.List.{[]}
 use Prim.Native.Nat.{ℕ, zero, suc, _+_, _-_, _≤_, _<_}
 use lib.Dec.{eqb, leb, ltb}
 use native.Mathlib.Omega.{arith}
 use borrow.Author.Tests.{eq-eqb, ne-eqb, le-leb, lt-leb, leb-true, leb-false}
 use Rattle.model.specs.Bytes.{Bytes, equalBytes, _and_, _or_, within}
-use Rattle.model.specs.Names.{slash, capital, letter, nameByte, nameBytes, properName, nameEnd}
+use Rattle.model.specs.Names.{slash, capital, letter, nameByte, nameBytes, properName, nameEnd, properParts}
 use Rattle.names.specs.Steps.{lastStart}
 
 and-false : (b : Bool) → b and false ≡ false
@@ -114,3 +115,7 @@ module _ (p : Bytes) where
   pub last-none : lastStart p 0 ≡ 0
   unfolding lastStart
   last-none = refl
+
+pub no-parts : (p : Bytes) → properParts p [] ≡ true
+unfolding properParts
+no-parts p = refl

@@ -56,10 +56,11 @@ loop-less c = search needs
 loop-again : tie.Need-loop-again Inv-loop μ-loop
 loop-again c =
     let l = c .before .before .before .before .before .loop in
-    let a = c .before .before .before .before .before .before .before .before .args in
-    (omega arith,
-    l .inv .1
-    ∙ equal-more (view (a .slot .now)) (capitals (view (a .s .now))) 1 (a .start) (a .n) (l .i) (omega arith) (c .if1 .taken ∙ c .before .capital-of .ensures))
+    let a = c .before .before .before .before .before .before .before .before .args in (
+      omega arith,
+      l .inv .1
+          ∙ equal-more (view (a .slot .now)) (capitals (view (a .s .now))) 1 (a .start) (a .n) (l .i) (omega arith) (c .if1 .taken ∙ c .before .capital-of .ensures),
+    )
 
 -- src/lib.rt:123:13
 returns : tie.Need-returns Inv-loop μ-loop

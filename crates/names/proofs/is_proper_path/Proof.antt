@@ -1,3 +1,7 @@
+use Rattle.names.proofs.CursorLaws.{Stepped, stepped-bounds, stepped-proper, left-bad}
+use Rattle.names.proofs.Laws.{no-parts}
+use Rattle.names.proofs.CursorLaws.{step-found, step-ends, step-fails, proper-good, proper-bad, step-after, step-fits}
+use mathlib.Core.Path.{refl}
 use native.Mathlib.Omega.{arith}
 use mathlib.Core.Path.{_≡_, sym, ap, _∙_}
 use Prim.Native.Nat.{_≤_, _<_, _+_, _-_}
@@ -41,7 +45,8 @@ loop-holds : tie.Need-loop-holds Inv-loop μ-loop
 unfolding properPath _and_
 loop-holds c =
     let s = c .before .before .before .before .args .path .now in
-    (?, ?)
+    let z : c .new .result .at ≡ 0 = ap (λ x. x .at) (c .new .ensures) in
+    (omega arith, rw (within-in 1 64 (length s) (omega arith) (omega arith), z) (ap (properParts (view s)) (left-start (view s) (length s))))
 
 -- src/lib.rt:240:15
 step-requires : tie.Need-step-requires Inv-loop μ-loop
@@ -53,11 +58,21 @@ enum-known-next c = search needs
 
 -- src/lib.rt:239:5
 loop-less : tie.Need-loop-less Inv-loop μ-loop
-loop-less c = ?
+loop-less c =
+    let s = c .before .before .before .before .before .before .before .before .before .args .path .now in
+    let g = c .before .next .given .0 in
+    let w : Stepped (view s) (length s) (c .before .before .before .before .loop .c .at) (g .0) (g .1 .0) (g .1 .1 .0) = step-found _ _ _ _ _ _ (sym (c .before .before .before .step .ensures) ∙ c .before .next .given .1) in
+    let b = stepped-bounds _ _ _ _ _ _ w in
+    omega arith
 
 -- src/lib.rt:239:5
 loop-again : tie.Need-loop-again Inv-loop μ-loop
-loop-again c = ?
+loop-again c =
+    let s = c .before .before .before .before .before .before .before .before .before .args .path .now in
+    let g = c .before .next .given .0 in
+    let w : Stepped (view s) (length s) (c .before .before .before .before .loop .c .at) (g .0) (g .1 .0) (g .1 .1 .0) = step-found _ _ _ _ _ _ (sym (c .before .before .before .step .ensures) ∙ c .before .next .given .1) in
+    let b = stepped-bounds _ _ _ _ _ _ w in
+    (omega arith, rw (w .next) (c .before .before .before .before .loop .inv .1 ∙ stepped-proper _ _ _ _ _ _ w))
 
 -- src/lib.rt:249:17
 enum-told : tie.Need-enum-told Inv-loop μ-loop
@@ -65,7 +80,11 @@ enum-told c = search needs
 
 -- src/lib.rt:249:17
 returns-3 : tie.Need-returns-3 Inv-loop μ-loop
-returns-3 c = ?
+returns-3 c =
+    let s = c .before .before .before .before .before .before .before .before .args .path .now in
+    let a = c .before .before .before .loop .c .at in
+    let l = step-ends (view s) (length s) a (sym (c .before .before .step .ensures) ∙ c .enum-told .given .1) in
+    sym (c .before .before .before .loop .inv .1 ∙ rw (left-done (view s) (length s) a l) (no-parts (view s)))
 
 -- src/lib.rt:252:17
 enum-told-2 : tie.Need-enum-told-2 Inv-loop μ-loop
@@ -73,7 +92,11 @@ enum-told-2 c = search needs
 
 -- src/lib.rt:252:17
 returns-4 : tie.Need-returns-4 Inv-loop μ-loop
-returns-4 c = ?
+returns-4 c =
+    let s = c .before .before .before .before .before .before .before .before .args .path .now in
+    let a = c .before .before .before .loop .c .at in
+    let l = step-fails (view s) (length s) a (sym (c .before .before .step .ensures) ∙ c .enum-told2 .given .1) in
+    sym (c .before .before .before .loop .inv .1 ∙ left-bad (view s) (length s) a (l .0) (l .1))
 
 pub is-proper-path-spec : {M : Type 1} → statement M
 is-proper-path-spec =

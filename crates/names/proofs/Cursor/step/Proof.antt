@@ -47,7 +47,7 @@ unfolding properStep _and_
 returns-2 c =
     let s = c .before .before .before .before .before .before .before .args in
     let q : properStep (view (s .path .now)) (length (s .path .now)) (s .self .at) ≡ true =
-        rw (eq-eqb _ _ (c .before .before .before .if2 .taken), ← c .before .before .end-of .ensures) (sym (c .before .is-proper-between .ensures) ∙ c .if3 .taken) in
+    rw (eq-eqb _ _ (c .before .before .before .if2 .taken), ← c .before .before .end-of .ensures) (sym (c .before .is-proper-between .ensures) ∙ c .if3 .taken) in
     rw (c .before .before .end-of .ensures) (sym (step-name _ _ _ (omega arith) q))
 
 -- src/lib.rt:206:5
@@ -56,7 +56,7 @@ unfolding properStep _and_
 returns-3 c =
     let s = c .before .before .before .before .before .before .before .args in
     let q : properStep (view (s .path .now)) (length (s .path .now)) (s .self .at) ≡ false =
-        rw (eq-eqb _ _ (c .before .before .before .if2 .taken), ← c .before .before .end-of .ensures) (sym (c .before .is-proper-between .ensures) ∙ c .if3 .left) in
+    rw (eq-eqb _ _ (c .before .before .before .if2 .taken), ← c .before .before .end-of .ensures) (sym (c .before .is-proper-between .ensures) ∙ c .if3 .left) in
     sym (step-bad _ _ _ (omega arith) q)
 
 -- src/lib.rt:206:5
