@@ -283,3 +283,71 @@ module _ (p : Bytes) where
       let y : a + 1 + (n - (a + 1)) ≡ n = omega arith in
       let z : nameEnd p (a + 1) (n - (a + 1)) ≡ a + 1 + (n - (a + 1)) = e ∙ sym y in
       (rw y at (last-same (a + 1) (n - (a + 1)) z)) ∙ last-here p (a + 1) a (omega arith) (step-slash p n a h)
+
+-- the last part of a proper path
+module _ (p : Bytes) (n : ℕ) where
+  last-by : (a : ℕ) (x : Part) (b : Bool) → a < n → ltb (stepEnd p n a) n ≡ b → properParts p (partsLeft p n a) ≡ true
+      → (stepEnd p n a < n → (y : Part) → lastPart y (partsLeft p n (stepEnd p n a)) ≡ part (lastStart p n) (n - lastStart p n))
+      → lastPart x (partsLeft p n a) ≡ part (lastStart p n) (n - lastStart p n)
+  unfolding lastPart
+  last-by a x true l e h f = rw (left-more p n a l) (f (ltb-true _ _ e) _)
+  last-by a x false l e h f =
+      let u : n ≤ stepEnd p n a = ltb-false _ _ e in
+      let v = step-fits p n a l in
+      let w : stepEnd p n a ≡ n = omega arith in
+      let s : lastStart p n ≡ a + 1 = last-step p n a l (left-proper p n a l h) w in
+      rw (left-more p n a l, left-done p n (stepEnd p n a) u, s, w)
+
+  last-of : (k a : ℕ) (x : Part) → n - a ≤ k → a < n → properParts p (partsLeft p n a) ≡ true
+      → lastPart x (partsLeft p n a) ≡ part (lastStart p n) (n - lastStart p n)
+  last-of zero a x m l h = absurd (let w : ⊥ = omega arith in w)
+  last-of (suc k) a x m l h =
+      let s : a + 1 ≤ stepEnd p n a = step-after p n a in
+      last-by a x (ltb (stepEnd p n a) n) l refl h (λ g y. last-of k (stepEnd p n a) y (omega arith) g (left-rest p n a l h))
+
+  pub left-last : (a : ℕ) (x : Part) → a < n → properParts p (partsLeft p n a) ≡ true
+      → lastPart x (partsLeft p n a) ≡ part (lastStart p n) (n - lastStart p n)
+  left-last a x l h = last-of (n - a) a x (omega arith) l h
+
+pub last-proper : (p : Bytes) (x : Part) (xs : List Part) → properName p (x .start) (x .size) ≡ true → properParts p xs ≡ true
+    → properName p (lastPart x xs .start) (lastPart x xs .size) ≡ true
+unfolding lastPart
+last-proper p x [] h g = h
+last-proper p x (y ∷ ys) h g = last-proper p y ys (proper-head p y ys g .1) (proper-tail p y ys g)
+
+-- a proper path of n bytes
+module _ (p : Bytes) (n : ℕ) (proper : properPath p n ≡ true) where
+  pub path-size : (1 ≤ n) × (n ≤ pathMost)
+  unfolding properPath
+  path-size = within-true 1 pathMost n (and-left _ _ proper)
+
+  pub path-parts : properParts p (parts p n) ≡ true
+  unfolding properPath
+  path-parts = and-right _ _ proper
+
+  pub path-left : properParts p (partsLeft p n 0) ≡ true
+  path-left = rw (← left-start p n) path-parts
+
+  pub path-first : parts p n ≡ part 1 (stepEnd p n 0 - 1) ∷ partsLeft p n (stepEnd p n 0)
+  path-first = left-start p n ∙ left-more p n 0 (path-size .0)
+
+  pub path-some : 1 ≤ length (parts p n)
+  path-some = rw path-first (omega arith)
+
+  pub path-most : 2 * length (parts p n) ≤ n
+  path-most = let m = left-most p n 0 path-left in rw (left-start p n) (omega arith)
+
+  pub path-each : (x : Part) (i : ℕ) → i < length (parts p n) → (1 ≤ getD (parts p n) i x .size) × (getD (parts p n) i x .size ≤ nameMost)
+  path-each x i l = name-size p _ _ (proper-each p (parts p n) x i path-parts l .1)
+
+  pub path-last : (x : Part) → lastPart x (parts p n) ≡ part (lastStart p n) (n - lastStart p n)
+  path-last x = rw (left-start p n) (left-last p n 0 x (path-size .0) path-left)
+
+  -- so the last name, which a call stores, is a proper name
+  pub path-last-name : properName p (lastStart p n) (n - lastStart p n) ≡ true
+  unfolding lastPart
+  path-last-name =
+      let l = path-size .0 in
+      let x = part 1 (stepEnd p n 0 - 1) in
+      let e : lastPart x (x ∷ partsLeft p n (stepEnd p n 0)) ≡ part (lastStart p n) (n - lastStart p n) = rw path-first at (path-last x) in
+      rw e at (last-proper p x (partsLeft p n (stepEnd p n 0)) (step-proper p n 0 (left-proper p n 0 l path-left)) (left-rest p n 0 l path-left))
