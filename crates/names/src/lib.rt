@@ -259,14 +259,15 @@ pub fn is_proper_path(path: &[u8]) -> bool
 fn last_start(path: &[u8]) -> usize
     ensures { λ r. ⌜ (r ≡ lastStart (view (now (path .entry))) (length (now (path .entry)))) × (r ≤ length (now (path .entry))) ⌝ }
 {
-    let mut i = path.len();
-    while 0 < i {
-        if path[i - 1] == SLASH {
-            return i;
+    let mut start = path.len();
+    while 0 < start {
+        let before = start - 1;
+        if path[before] == SLASH {
+            return start;
         }
-        i -= 1;
+        start = before;
     }
-    i
+    start
 }
 
 // The last name, as a part of the caller's path.
