@@ -1,16 +1,13 @@
+-- `names::are_capitals` meets its contract: the loop's invariant: what is still to be compared decides, and the measure is what is left. Assumes nothing.
 use native.Mathlib.Omega.{arith}
-use mathlib.Core.Path.{_≡_, refl, sym, ap, _∙_}
-use Prim.Native.Nat.{suc, _≤_, _<_, _-_, _+_}
-use lib.ListN.{length}
+use mathlib.Core.Path.{_≡_, sym, _∙_}
+use Prim.Native.Nat.{_≤_, _-_, _+_}
+use borrow.Author.Needs.{needs}
 use Rattle.model.specs.Bytes.{view, equalBytes}
 use Rattle.model.specs.Names.{capitals}
 use Rattle.names.proofs.Laws.{equal-start, equal-more, equal-not, equal-all}
-use borrow.Author.Needs.{needs}
 use Rattle.names.proofs.are_capitals.Statement.{statement}
 use Rattle.names.proofs.are_capitals.Tie as tie
-use Rattle.names.proofs.are_capitals.Reads as reads
-use Rattle.names.proofs.are_capitals.Lts as lts
-use Rattle.names.proofs.capital_of.Reads as capital-of-reads
 
 abbrev Inv-loop : tie.InvT-loop
 Inv-loop slot s start n i₀ i =
@@ -20,39 +17,30 @@ Inv-loop slot s start n i₀ i =
 abbrev μ-loop : tie.MeasureT-loop
 μ-loop slot s start n i₀ i = n - i
 
--- src/lib.rt:119:5
 loop-holds : tie.Need-loop-holds Inv-loop μ-loop
 loop-holds c = let a = c .before .before .args in (omega arith, equal-start (view (a .slot .now)) (capitals (view (a .s .now))) 1 (a .start) (a .n))
 
--- src/lib.rt:120:17
 add-if1 : tie.Need-add-if1 Inv-loop μ-loop
 add-if1 c = search needs
 
--- src/lib.rt:120:12
 shared-slice-read-if1 : tie.Need-shared-slice-read-if1 Inv-loop μ-loop
 shared-slice-read-if1 c = search needs
 
--- src/lib.rt:120:40
 add-capital-of : tie.Need-add-capital-of Inv-loop μ-loop
 add-capital-of c = search needs
 
--- src/lib.rt:120:38
 shared-slice-read-capital-of : tie.Need-shared-slice-read-capital-of Inv-loop μ-loop
 shared-slice-read-capital-of c = search needs
 
--- src/lib.rt:120:27
 capital-of-requires : tie.Need-capital-of-requires Inv-loop μ-loop
 capital-of-requires c κs = search needs
 
--- src/lib.rt:121:13
 add-i : tie.Need-add-i Inv-loop μ-loop
 add-i c = search needs
 
--- src/lib.rt:119:5
 loop-less : tie.Need-loop-less Inv-loop μ-loop
 loop-less c = search needs
 
--- src/lib.rt:119:5
 loop-again : tie.Need-loop-again Inv-loop μ-loop
 loop-again c =
     let l = c .before .before .before .before .before .loop in
@@ -62,7 +50,6 @@ loop-again c =
           ∙ equal-more (view (a .slot .now)) (capitals (view (a .s .now))) 1 (a .start) (a .n) (l .i) (omega arith) (c .if1 .taken ∙ c .before .capital-of .ensures),
     )
 
--- src/lib.rt:123:13
 returns : tie.Need-returns Inv-loop μ-loop
 returns c =
     let l = c .before .before .before .before .before .loop in
@@ -71,7 +58,6 @@ returns c =
     (l .inv .1
     ∙ equal-not (view (a .slot .now)) (capitals (view (a .s .now))) 1 (a .start) (a .n) (l .i) (omega arith) (λ e. c .if1 .left (e ∙ sym (c .before .capital-of .ensures))))
 
--- src/lib.rt:114:1
 returns-2 : tie.Need-returns-2 Inv-loop μ-loop
 returns-2 c =
     let l = c .before .loop in

@@ -1,15 +1,14 @@
+-- `names::end_of` meets its contract: the loop's invariant: the name ends where it ends from i on, and the measure is what is left. Assumes nothing.
 use native.Mathlib.Omega.{arith}
-use mathlib.Core.Path.{_≡_, refl, sym, ap, _∙_}
-use Prim.Native.Nat.{suc, _≤_, _<_, _-_, _+_}
+use mathlib.Core.Path.{_≡_, refl, sym, _∙_}
+use Prim.Native.Nat.{suc, _≤_, _-_, _+_}
 use lib.ListN.{length}
+use borrow.Author.Needs.{needs}
 use Rattle.model.specs.Bytes.{view}
 use Rattle.model.specs.Names.{nameEnd}
 use Rattle.names.proofs.Laws.{end-here, end-more, end-none}
-use borrow.Author.Needs.{needs}
 use Rattle.names.proofs.end_of.Statement.{statement}
 use Rattle.names.proofs.end_of.Tie as tie
-use Rattle.names.proofs.end_of.Reads as reads
-use Rattle.names.proofs.end_of.Lts as lts
 
 abbrev Inv-loop : tie.InvT-loop
 Inv-loop path start i₀ i =
@@ -18,30 +17,24 @@ Inv-loop path start i₀ i =
 abbrev μ-loop : tie.MeasureT-loop
 μ-loop path start i₀ i = length path - i
 
--- src/lib.rt:190:5
 loop-holds : tie.Need-loop-holds Inv-loop μ-loop
 loop-holds c = (omega arith, refl)
 
--- src/lib.rt:191:12
 shared-slice-read-if1 : tie.Need-shared-slice-read-if1 Inv-loop μ-loop
 shared-slice-read-if1 c = search needs
 
--- src/lib.rt:192:13
 returns : tie.Need-returns Inv-loop μ-loop
 returns c =
     let l = c .before .before .before .loop in
     let s = c .before .before .before .before .args .path .now in
     sym (l .inv .1 ∙ end-here (view s) (l .i) _ (c .if1 .taken))
 
--- src/lib.rt:194:9
 add-i : tie.Need-add-i Inv-loop μ-loop
 add-i c = search needs
 
--- src/lib.rt:190:5
 loop-less : tie.Need-loop-less Inv-loop μ-loop
 loop-less c = search needs
 
--- src/lib.rt:190:5
 loop-again : tie.Need-loop-again Inv-loop μ-loop
 loop-again c =
     let l = c .before .before .before .loop in
@@ -49,7 +42,6 @@ loop-again c =
     let e : length s - l .i ≡ suc (length s - (l .i + 1)) = omega arith in
     (omega arith, l .inv .1 ∙ end-more (view s) (l .i) _ _ e (c .if1 .left))
 
--- src/lib.rt:185:1
 returns-2 : tie.Need-returns-2 Inv-loop μ-loop
 returns-2 c =
     let l = c .before .loop in

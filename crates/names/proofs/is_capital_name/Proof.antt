@@ -1,40 +1,30 @@
+-- `names::is_capital_name` meets its contract: the two tests of the definition, on the size that the slot's first byte has. Assumes nothing.
 use mathlib.Core.Bool.{true, false}
 use native.Mathlib.Omega.{arith}
 use mathlib.Core.Path.{_≡_, sym, ap, _∙_}
 use Prim.Native.Nat.{_+_, _-_, _%_}
 use lib.ListN.{getD}
+use borrow.Author.Needs.{needs}
 use Rattle.model.specs.Bytes.{view, equalBytes, _and_}
 use Rattle.model.specs.Names.{capitalName, properName, capitals}
-use borrow.Author.Needs.{needs}
 use Rattle.names.proofs.is_capital_name.Statement.{statement}
 use Rattle.names.proofs.is_capital_name.Tie as tie
-use Rattle.names.proofs.is_capital_name.Reads as reads
-use Rattle.names.proofs.is_capital_name.Lts as lts
-use Rattle.names.proofs.are_capitals.Reads as are-capitals-reads
-use Rattle.names.proofs.is_proper_between.Reads as is-proper-between-reads
-use Rattle.names.proofs.wide.Reads as wide-reads
 
--- src/lib.rt:134:18
 shared-slice-read-wide : tie.Need-shared-slice-read-wide
 shared-slice-read-wide c = search needs
 
--- src/lib.rt:134:9
 wide-requires : tie.Need-wide-requires
 wide-requires c κs = search needs
 
--- src/lib.rt:135:35
 add-is-proper-between : tie.Need-add-is-proper-between
 add-is-proper-between c = search needs
 
--- src/lib.rt:135:8
 is-proper-between-requires : tie.Need-is-proper-between-requires
 is-proper-between-requires c κs = search needs
 
--- src/lib.rt:136:9
 are-capitals-requires : tie.Need-are-capitals-requires
 are-capitals-requires c κs = search needs
 
--- src/lib.rt:130:1
 returns : tie.Need-returns
 unfolding capitalName _and_
 returns c =
@@ -43,7 +33,6 @@ returns c =
     let q : properName (view s) 1 (getD s 0 0 % 16) ≡ true = rw (← k) (sym (c .before .before .is-proper-between .ensures) ∙ c .before .if1 .taken) in
     rw q (c .are-capitals .ensures ∙ ap (equalBytes (view s) 1 (capitals (view s)) 1) (c .before .before .before .wide .ensures))
 
--- src/lib.rt:130:1
 returns-2 : tie.Need-returns-2
 unfolding capitalName _and_
 returns-2 c =

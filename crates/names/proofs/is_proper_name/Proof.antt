@@ -1,21 +1,17 @@
+-- `names::is_proper_name` meets its contract: a name from 0 to the end. Assumes nothing.
 use native.Mathlib.Omega.{arith}
 use mathlib.Core.Path.{_≡_, ap, _∙_}
 use Prim.Native.Nat.{_-_}
 use lib.ListN.{length}
+use borrow.Author.Needs.{needs}
 use Rattle.model.specs.Bytes.{view}
 use Rattle.model.specs.Names.{properName}
-use borrow.Author.Needs.{needs}
 use Rattle.names.proofs.is_proper_name.Statement.{statement}
 use Rattle.names.proofs.is_proper_name.Tie as tie
-use Rattle.names.proofs.is_proper_name.Reads as reads
-use Rattle.names.proofs.is_proper_name.Lts as lts
-use Rattle.names.proofs.is_proper_between.Reads as is-proper-between-reads
 
--- src/lib.rt:110:5
 is-proper-between-requires : tie.Need-is-proper-between-requires
 is-proper-between-requires c κs = search needs
 
--- src/lib.rt:107:1
 returns : tie.Need-returns
 returns c =
     let s = c .before .before .args .name .now in

@@ -1,23 +1,16 @@
-use Rattle.names.proofs.CursorLaws.{Stepped, stepped-bounds, stepped-proper, left-bad}
-use Rattle.names.proofs.Laws.{no-parts}
-use Rattle.names.proofs.CursorLaws.{step-found, step-ends, step-fails, proper-good, proper-bad, step-after, step-fits}
-use mathlib.Core.Path.{refl}
-use native.Mathlib.Omega.{arith}
+-- `names::is_proper_path` meets its contract: the loop's invariant: the parts that are left decide, and each step makes them fewer. Assumes nothing.
 use mathlib.Core.Path.{_≡_, sym, ap, _∙_}
-use Prim.Native.Nat.{_≤_, _<_, _+_, _-_}
+use native.Mathlib.Omega.{arith}
+use Prim.Native.Nat.{_≤_, _-_}
 use lib.ListN.{length}
-use Rattle.model.specs.Bytes.{view, _and_}
-use Rattle.model.specs.Names.{parts, properParts, properPath}
-use Rattle.names.specs.Steps.{partsLeft}
-use Rattle.names.proofs.Laws.{within-in, within-below, within-above}
-use Rattle.names.proofs.CursorLaws.{left-start, left-more, left-done}
 use borrow.Author.Needs.{needs}
+use Rattle.names.proofs.CursorLaws.{Stepped, stepped-bounds, stepped-proper, left-bad, step-found, step-ends, step-fails, left-start, left-done}
+use Rattle.names.proofs.Laws.{no-parts, within-in, within-below, within-above}
+use Rattle.model.specs.Bytes.{view, _and_}
+use Rattle.model.specs.Names.{properParts, properPath}
+use Rattle.names.specs.Steps.{partsLeft}
 use Rattle.names.proofs.is_proper_path.Statement.{statement}
 use Rattle.names.proofs.is_proper_path.Tie as tie
-use Rattle.names.proofs.is_proper_path.Reads as reads
-use Rattle.names.proofs.is_proper_path.Lts as lts
-use Rattle.names.proofs.Cursor.new.Reads as new-reads
-use Rattle.names.proofs.Cursor.step.Reads as step-reads
 
 abbrev Inv-loop : tie.InvT-loop
 Inv-loop path c₀ c =
@@ -26,21 +19,17 @@ Inv-loop path c₀ c =
 abbrev μ-loop : tie.MeasureT-loop
 μ-loop path c₀ c = length path - c .at
 
--- src/lib.rt:233:9
 returns : tie.Need-returns Inv-loop μ-loop
 unfolding properPath _and_
 returns c = let s = c .before .before .args .path .now in rw (within-below 1 64 (length s) (omega arith))
 
--- src/lib.rt:236:9
 returns-2 : tie.Need-returns-2 Inv-loop μ-loop
 unfolding properPath _and_
 returns-2 c = let s = c .before .before .before .args .path .now in rw (within-above 1 64 (length s) (omega arith))
 
--- src/lib.rt:238:9
 new-requires : tie.Need-new-requires Inv-loop μ-loop
 new-requires c κs = search needs
 
--- src/lib.rt:239:5
 loop-holds : tie.Need-loop-holds Inv-loop μ-loop
 unfolding properPath _and_
 loop-holds c =
@@ -48,15 +37,12 @@ loop-holds c =
     let z : c .new .result .at ≡ 0 = ap (λ x. x .at) (c .new .ensures) in
     (omega arith, rw (within-in 1 64 (length s) (omega arith) (omega arith), z) (ap (properParts (view s)) (left-start (view s) (length s))))
 
--- src/lib.rt:240:15
 step-requires : tie.Need-step-requires Inv-loop μ-loop
 step-requires c κs = search needs
 
--- src/lib.rt:244:17
 enum-known-next : tie.Need-enum-known-next Inv-loop μ-loop
 enum-known-next c = search needs
 
--- src/lib.rt:239:5
 loop-less : tie.Need-loop-less Inv-loop μ-loop
 loop-less c =
     let s = c .before .before .before .before .before .before .before .before .before .args .path .now in
@@ -65,7 +51,6 @@ loop-less c =
     let b = stepped-bounds _ _ _ _ _ _ w in
     omega arith
 
--- src/lib.rt:239:5
 loop-again : tie.Need-loop-again Inv-loop μ-loop
 loop-again c =
     let s = c .before .before .before .before .before .before .before .before .before .args .path .now in
@@ -74,11 +59,9 @@ loop-again c =
     let b = stepped-bounds _ _ _ _ _ _ w in
     (omega arith, rw (w .next) (c .before .before .before .before .loop .inv .1 ∙ stepped-proper _ _ _ _ _ _ w))
 
--- src/lib.rt:249:17
 enum-told : tie.Need-enum-told Inv-loop μ-loop
 enum-told c = search needs
 
--- src/lib.rt:249:17
 returns-3 : tie.Need-returns-3 Inv-loop μ-loop
 returns-3 c =
     let s = c .before .before .before .before .before .before .before .before .args .path .now in
@@ -86,11 +69,9 @@ returns-3 c =
     let l = step-ends (view s) (length s) a (sym (c .before .before .step .ensures) ∙ c .enum-told .given .1) in
     sym (c .before .before .before .loop .inv .1 ∙ rw (left-done (view s) (length s) a l) (no-parts (view s)))
 
--- src/lib.rt:252:17
 enum-told-2 : tie.Need-enum-told-2 Inv-loop μ-loop
 enum-told-2 c = search needs
 
--- src/lib.rt:252:17
 returns-4 : tie.Need-returns-4 Inv-loop μ-loop
 returns-4 c =
     let s = c .before .before .before .before .before .before .before .before .args .path .now in

@@ -1,32 +1,25 @@
+-- `names::last_name` meets its contract: the part from there on is the list from there on. Assumes nothing.
 use native.Mathlib.Omega.{arith}
-use mathlib.Core.Path.{_≡_, ap, _∙_}
+use mathlib.Core.Path.{ap, _∙_}
 use Prim.Native.Nat.{_-_, _≤_}
-use lib.ListN.{length, take, drop, length-drop}
+use lib.ListN.{length, drop, length-drop}
 use lib.Seq.{take-all}
 use borrow.Author.Needs.{needs}
 use Rattle.names.proofs.last_name.Statement.{statement}
 use Rattle.names.proofs.last_name.Tie as tie
-use Rattle.names.proofs.last_name.Reads as reads
-use Rattle.names.proofs.last_name.Lts as lts
-use Rattle.names.proofs.last_start.Reads as last-start-reads
 
--- src/lib.rt:276:9
 last-start-requires : tie.Need-last-start-requires
 last-start-requires c κs = search needs
 
--- src/lib.rt:277:5
 sub-result : tie.Need-sub-result
 sub-result c = search needs
 
--- src/lib.rt:277:5
 part-result-start : tie.Need-part-result-start
 part-result-start c = search needs
 
--- src/lib.rt:277:5
 part-result-end : tie.Need-part-result-end
 part-result-end c = search needs
 
--- src/lib.rt:273:1
 returns : tie.Need-returns
 returns c =
     let s = c .before .before .before .args .path .now in

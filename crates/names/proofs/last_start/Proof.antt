@@ -1,15 +1,14 @@
+-- `names::last_start` meets its contract: the loop's invariant: the last name begins where it does among the first bytes, and the measure is their number. Assumes nothing.
 use native.Mathlib.Omega.{arith}
 use mathlib.Core.Path.{_≡_, refl, sym, _∙_}
 use Prim.Native.Nat.{suc, _≤_, _-_}
 use lib.ListN.{length}
+use borrow.Author.Needs.{needs}
 use Rattle.model.specs.Bytes.{view}
 use Rattle.names.specs.Steps.{lastStart}
 use Rattle.names.proofs.Laws.{last-here, last-more, last-none}
-use borrow.Author.Needs.{needs}
 use Rattle.names.proofs.last_start.Statement.{statement}
 use Rattle.names.proofs.last_start.Tie as tie
-use Rattle.names.proofs.last_start.Reads as reads
-use Rattle.names.proofs.last_start.Lts as lts
 
 abbrev Inv-loop : tie.InvT-loop
 Inv-loop path start₀ start = (start ≤ length path) × (lastStart (view path) (length path) ≡ lastStart (view path) start)
@@ -17,19 +16,15 @@ Inv-loop path start₀ start = (start ≤ length path) × (lastStart (view path)
 abbrev μ-loop : tie.MeasureT-loop
 μ-loop path start₀ start = start
 
--- src/lib.rt:263:5
 loop-holds : tie.Need-loop-holds Inv-loop μ-loop
 loop-holds c = (omega arith, refl)
 
--- src/lib.rt:264:22
 sub-before : tie.Need-sub-before Inv-loop μ-loop
 sub-before c = search needs
 
--- src/lib.rt:265:12
 shared-slice-read-if1 : tie.Need-shared-slice-read-if1 Inv-loop μ-loop
 shared-slice-read-if1 c = search needs
 
--- src/lib.rt:266:13
 returns : tie.Need-returns Inv-loop μ-loop
 returns c =
     let l = c .before .before .before .loop in
@@ -37,11 +32,9 @@ returns c =
     let e : l .start ≡ suc (l .start - 1) = omega arith in
     (sym (l .inv .1 ∙ last-here (view s) _ _ e (c .if1 .taken)), omega arith)
 
--- src/lib.rt:263:5
 loop-less : tie.Need-loop-less Inv-loop μ-loop
 loop-less c = search needs
 
--- src/lib.rt:263:5
 loop-again : tie.Need-loop-again Inv-loop μ-loop
 loop-again c =
     let l = c .before .before .before .loop in
@@ -49,7 +42,6 @@ loop-again c =
     let e : l .start ≡ suc (l .start - 1) = omega arith in
     (omega arith, l .inv .1 ∙ last-more (view s) _ _ e (c .if1 .left))
 
--- src/lib.rt:259:1
 returns-2 : tie.Need-returns-2 Inv-loop μ-loop
 returns-2 c =
     let l = c .before .loop in

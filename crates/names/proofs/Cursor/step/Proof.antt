@@ -1,38 +1,29 @@
+-- `names::Cursor::step` meets its contract: by the laws of a step: at the end, at a proper name, and else. Assumes nothing.
 use mathlib.Core.Bool.{true, false}
 use native.Mathlib.Omega.{arith}
-use mathlib.Core.Path.{_≡_, sym, ap, _∙_}
-use Prim.Native.Nat.{_≤_, _<_, _+_, _-_}
-use lib.ListN.{length, getD}
+use mathlib.Core.Path.{_≡_, sym, _∙_}
+use Prim.Native.Nat.{_≤_, _+_}
+use lib.ListN.{length}
 use borrow.Author.Tests.{eq-eqb, ne-eqb}
-use Rattle.model.specs.Bytes.{view, _and_}
-use Rattle.model.specs.Names.{properName}
-use Rattle.names.specs.Steps.{found, stepEnd, properStep}
-use Rattle.names.proofs.CursorLaws.{step-end, step-name, step-bad, step-after, step-fits}
 use borrow.Author.Needs.{needs}
+use Rattle.model.specs.Bytes.{view, _and_}
+use Rattle.names.specs.Steps.{stepEnd, properStep}
+use Rattle.names.proofs.CursorLaws.{step-end, step-name, step-bad, step-after, step-fits}
 use Rattle.names.proofs.Cursor.step.Statement.{statement}
 use Rattle.names.proofs.Cursor.step.Tie as tie
-use Rattle.names.proofs.Cursor.step.Reads as reads
-use Rattle.names.proofs.Cursor.step.Lts as lts
-use Rattle.names.proofs.end_of.Reads as end-of-reads
-use Rattle.names.proofs.is_proper_between.Reads as is-proper-between-reads
 
--- src/lib.rt:211:13
 returns : tie.Need-returns
 returns c = sym (step-end _ _ _ (c .if1 .taken))
 
--- src/lib.rt:213:12
 shared-slice-read-if2 : tie.Need-shared-slice-read-if2
 shared-slice-read-if2 c = search needs
 
--- src/lib.rt:214:25
 add-start : tie.Need-add-start
 add-start c = search needs
 
--- src/lib.rt:215:17
 end-of-requires : tie.Need-end-of-requires
 end-of-requires c κs = search needs
 
--- src/lib.rt:216:16
 is-proper-between-requires : tie.Need-is-proper-between-requires
 is-proper-between-requires c κs =
     let s = c .before .before .before .before .before .args in
@@ -41,7 +32,6 @@ is-proper-between-requires c κs =
     let y : s .self .at + 1 ≤ stepEnd (view (s .path .now)) (length (s .path .now)) (s .self .at) = step-after _ _ _ in
     (omega arith, omega arith)
 
--- src/lib.rt:217:17
 returns-2 : tie.Need-returns-2
 unfolding properStep _and_
 returns-2 c =
@@ -50,7 +40,6 @@ returns-2 c =
     rw (eq-eqb _ _ (c .before .before .before .if2 .taken), ← c .before .before .end-of .ensures) (sym (c .before .is-proper-between .ensures) ∙ c .if3 .taken) in
     rw (c .before .before .end-of .ensures) (sym (step-name _ _ _ (omega arith) q))
 
--- src/lib.rt:206:5
 returns-3 : tie.Need-returns-3
 unfolding properStep _and_
 returns-3 c =
@@ -59,7 +48,6 @@ returns-3 c =
     rw (eq-eqb _ _ (c .before .before .before .if2 .taken), ← c .before .before .end-of .ensures) (sym (c .before .is-proper-between .ensures) ∙ c .if3 .left) in
     sym (step-bad _ _ _ (omega arith) q)
 
--- src/lib.rt:206:5
 returns-4 : tie.Need-returns-4
 unfolding properStep _and_
 returns-4 c =
