@@ -1,16 +1,15 @@
 -- How the cursor's steps run through the parts of a path. Assumes nothing.
-use mathlib.Core.Path.{_≡_, refl, sym, ap, _∙_}
+use mathlib.Core.Path.{_≡_, refl, sym, _∙_}
 use mathlib.Core.Bool.{Bool, true, false}
 use mathlib.Core.List.{List, [], _∷_}
 use Prim.Native.Nat.{ℕ, zero, suc, _+_, _-_, _*_, _≤_, _<_}
 use lib.ListN.{length, getD}
-use lib.Dec.{eqb, leb, ltb}
+use lib.Dec.{eqb, ltb}
 use native.Mathlib.Omega.{arith}
 use borrow.Author.Tests.{eqb-true, eqb-false, ltb-true, ltb-false, lt-ltb, le-ltb}
-use Rattle.model.specs.Bytes.{Bytes, _and_, within}
-use Rattle.model.specs.Names.{slash, nameMost, pathMost, nameEnd, properName, nameBytes, letter, Part, part, partsFrom, parts, properParts, properPath}
+use Rattle.model.specs.Bytes.{Bytes, _and_}
+use Rattle.model.specs.Names.{slash, nameMost, pathMost, nameEnd, properName, Part, part, partsFrom, parts, properParts, properPath}
 use Rattle.names.specs.declared.Cursor.{Cursor}
-use Rattle.names.specs.declared.Step.{Step}
 use Rattle.names.specs.declared.Step.the-variants.{Name, End, Bad}
 use Rattle.names.specs.Steps.{found, stepEnd, properStep, stepAt, partsLeft, lastPart, lastStart}
 use Rattle.names.proofs.Laws.{and-left, and-right, within-true, end-here, end-more, end-none, last-here, last-more}
@@ -194,28 +193,37 @@ proper-each p [] x i h l = absurd (let w : ⊥ = omega arith in w)
 proper-each p (y ∷ ys) x zero h l = proper-head p y ys h
 proper-each p (y ∷ ys) x (suc i) h l = proper-each p ys x i (proper-tail p y ys h) (omega arith)
 
--- the cursor against the parts that are left
-module _ (p : Bytes) (n a : ℕ) (here : a < n) where
-  rest-by : (b : Bool) → properStep p n a ≡ b → properParts p (partsLeft p n a) ≡ true
-      → (properStep p n a ≡ true) × (properParts p (partsLeft p n (stepEnd p n a)) ≡ true)
-  rest-by true e h = (e, sym (ap (properParts p) (left-more p n a here) ∙ proper-good p n a _ e) ∙ h)
-  rest-by false e h = never (sym h ∙ ap (properParts p) (left-more p n a here) ∙ proper-bad p n a _ e)
+-- where a list of parts that begins with the step's is proper, so is the step
+module _ (p : Bytes) (n a : ℕ) (xs : List Part) where
+  first-by : (b : Bool) → properStep p n a ≡ b → properParts p (part (a + 1) (stepEnd p n a - (a + 1)) ∷ xs) ≡ true → properStep p n a ≡ true
+  first-by true e h = e
+  first-by false e h = never (sym h ∙ proper-bad p n a xs e)
 
-  -- where the parts left are proper, the step finds the first of them and leaves the others
+  pub first-proper : properParts p (part (a + 1) (stepEnd p n a - (a + 1)) ∷ xs) ≡ true → properStep p n a ≡ true
+  first-proper h = first-by (properStep p n a) refl h
+
+-- where the parts from a on are proper, the step finds the first of them and leaves the others
+module _ (p : Bytes) (n a : ℕ) (here : a < n) where
+  pub parts-proper : (k : ℕ) → properParts p (partsFrom p n a (suc k)) ≡ true → properStep p n a ≡ true
+  parts-proper k h = first-proper p n a _ (rw (parts-more p n a k here) at h)
+
+  pub parts-name : (k : ℕ) → properParts p (partsFrom p n a (suc k)) ≡ true → stepAt p n a ≡ found (a + 1) (stepEnd p n a)
+  parts-name k h = step-name p n a here (parts-proper k h)
+
   pub left-proper : properParts p (partsLeft p n a) ≡ true → properStep p n a ≡ true
-  left-proper h = rest-by (properStep p n a) refl h .0
+  left-proper h = first-proper p n a _ (rw (left-more p n a here) at h)
 
   pub left-name : properParts p (partsLeft p n a) ≡ true → stepAt p n a ≡ found (a + 1) (stepEnd p n a)
   left-name h = step-name p n a here (left-proper h)
 
-  pub left-rest : properParts p (partsLeft p n a) ≡ true → properParts p (partsLeft p n (stepEnd p n a)) ≡ true
-  left-rest h = rest-by (properStep p n a) refl h .1
-
   pub left-good : properStep p n a ≡ true → properParts p (partsLeft p n a) ≡ properParts p (partsLeft p n (stepEnd p n a))
-  left-good e = ap (properParts p) (left-more p n a here) ∙ proper-good p n a _ e
+  left-good e = rw (left-more p n a here) (proper-good p n a _ e)
 
   pub left-bad : properStep p n a ≡ false → properParts p (partsLeft p n a) ≡ false
-  left-bad e = ap (properParts p) (left-more p n a here) ∙ proper-bad p n a _ e
+  left-bad e = rw (left-more p n a here) (proper-bad p n a _ e)
+
+  pub left-rest : properParts p (partsLeft p n a) ≡ true → properParts p (partsLeft p n (stepEnd p n a)) ≡ true
+  left-rest h = sym (left-good (left-proper h)) ∙ h
 
 -- what a caller of the cursor knows when it holds a name
 module _ (p : Bytes) (n a s e : ℕ) (c : Cursor) (w : Stepped p n a s e c) where

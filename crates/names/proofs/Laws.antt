@@ -1,13 +1,12 @@
 -- One step of each test on a run of bytes, for the loops that make it. Assumes nothing.
-use mathlib.Core.Path.{_≡_, refl, sym, ap, _∙_}
+use mathlib.Core.Path.{_≡_, refl}
 use mathlib.Core.Bool.{Bool, true, false}
 use mathlib.Core.List.{[]}
 use Prim.Native.Nat.{ℕ, zero, suc, _+_, _-_, _≤_, _<_}
-use lib.Dec.{eqb, leb, ltb}
 use native.Mathlib.Omega.{arith}
-use borrow.Author.Tests.{eq-eqb, ne-eqb, le-leb, lt-leb, leb-true, leb-false}
-use Rattle.model.specs.Bytes.{Bytes, equalBytes, _and_, _or_, within}
-use Rattle.model.specs.Names.{slash, capital, letter, nameByte, nameBytes, properName, nameEnd, properParts}
+use borrow.Author.Tests.{eq-eqb, ne-eqb, le-leb, lt-leb, leb-true}
+use Rattle.model.specs.Bytes.{Bytes, equalBytes, _and_, within}
+use Rattle.model.specs.Names.{slash, capital, nameByte, nameBytes, nameEnd, properParts}
 use Rattle.names.specs.Steps.{lastStart}
 
 and-false : (b : Bool) → b and false ≡ false

@@ -1,15 +1,15 @@
 -- A slot or a name that is lent as a part is tested as it is where it stands in the whole. Assumes nothing.
-use mathlib.Core.Path.{_≡_, refl, sym, ap, _∙_}
+use mathlib.Core.Path.{_≡_, refl, ap, _∙_}
 use mathlib.Core.Bool.{Bool, true, false}
 use mathlib.Core.List.{List}
-use Prim.Native.Nat.{ℕ, zero, suc, _+_, _-_, _%_, _≤_, _<_}
+use Prim.Native.Nat.{ℕ, zero, suc, _+_, _-_, _≤_, _<_}
 use lib.Dec.{eqb}
-use lib.ListN.{length, getD, take, drop, length-drop}
+use lib.ListN.{length, take, drop, length-drop}
 use lib.Seq.{getD-take, getD-drop, length-take-le}
 use native.Mathlib.Omega.{arith}
 use borrow.Author.Tests.{eqb-true}
 use Rattle.model.specs.Bytes.{Bytes, view, equalBytes, _and_, within}
-use Rattle.model.specs.Names.{capital, capitals, letter, nameByte, nameBytes, properName, nameSize, Part, part, capitalName, sameName, alike}
+use Rattle.model.specs.Names.{capital, capitals, nameByte, nameBytes, properName, nameSize, Part, part, capitalName, sameName, alike}
 use Rattle.names.specs.Steps.{alikeNames}
 
 -- the k bytes of f from a on are those of g from b on

@@ -5,7 +5,6 @@ use mathlib.Core.List.{List, [], _∷_}
 use lib.Dec.{ltb, eqb}
 use Rattle.model.specs.Bytes.{Bytes, equalBytes, _and_}
 use Rattle.model.specs.Names.{slash, nameEnd, properName, nameSize, Part, partsFrom}
-use Rattle.names.specs.declared.Cursor.{Cursor}
 use Rattle.names.specs.declared.Step.{Step}
 use Rattle.names.specs.declared.Step.the-variants.{Name, End, Bad}
 

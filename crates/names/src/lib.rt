@@ -1,9 +1,9 @@
 // Names and paths: which are proper, stored names compared, a cursor over a path's names, and the last name as a part of the path.
 ghost use mathlib.Core.Path.{_≡_};
-ghost use Prim.Native.Nat.{ℕ, _+_, _-_, _≤_, _<_};
+ghost use Prim.Native.Nat.{_+_, _-_, _≤_, _<_};
 ghost use lib.ListN.{length, take, drop};
 ghost use Rattle.model.specs.Bytes.{view, equalBytes};
-ghost use Rattle.model.specs.Names.{capital, letter, nameByte, nameBytes, properName, capitals, part, nameEnd, properPath, nameSize, capitalName, sameName};
+ghost use Rattle.model.specs.Names.{capital, letter, nameByte, nameBytes, properName, capitals, part, nameEnd, properPath, capitalName, sameName};
 ghost use Rattle.names.specs.Steps.{stepAt, lastStart, alikeNames};
 
 const SLASH: u8 = b'/';
