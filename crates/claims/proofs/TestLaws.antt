@@ -48,8 +48,8 @@ pub none-off : (t : Bool) → one-if t ≡ 0 → t ≡ false
 none-off true e = absurd (omega arith)
 none-off false e = refl
 
-pub is-self : (b : ℕ) → is b b ≡ 1
-is-self b = rw (eq-eqb b b refl)
+pub is-same : (a b : ℕ) → a ≡ b → is a b ≡ 1
+is-same a b h = rw (eq-eqb a b h)
 
 pub is-other : (a b : ℕ) → (a ≡ b → ⊥) → is a b ≡ 0
 is-other a b h = rw (ne-eqb a b h)
