@@ -1,29 +1,27 @@
 -- The claims of a volume hold exactly where it is sound. Assumes nothing.
 use mathlib.Core.Path.{_≡_, refl, sym, ap, ap₂, _∙_}
-use mathlib.Core.List.{List, [], _∷_, _++_, append-nil, map}
-use mathlib.Core.Bool.{Bool, true, false, not, false≢true, Bool·beq}
+use mathlib.Core.List.{List, [], _∷_, _++_, append-nil}
+use mathlib.Core.Bool.{Bool, true, false, not, false≢true, true≢false, Bool·beq}
 use mathlib.Core.Logic.{_↔_}
 use mathlib.Core.Option.{Option, none, some}
 use Prim.Native.Nat.{ℕ, zero, suc, _+_, _-_, _*_, _/_, _%_, _≤_, _<_}
 use native.Mathlib.Nat.{not-suc-le-zero}
-use native.Mathlib.Numerals.{sub-one}
+use native.Mathlib.Numerals.{add-one, sub-one}
 use native.Mathlib.Omega.{arith}
-use borrow.Author.Tests.{eqb-true, eqb-false, ltb-true, ltb-false, leb-true, leb-false, eq-eqb, ne-eqb, lt-ltb, le-ltb, lt-leb, le-leb}
+use borrow.Author.Tests.{eqb-true, ltb-true, ltb-false, leb-true, leb-false, ne-eqb, lt-ltb, le-ltb, lt-leb, le-leb}
 use lib.Dec.{eqb, ltb, leb}
-use lib.ListN.{length}
-use Rattle.model.specs.Bytes.{Bytes, sum, count, gather, run, one-if, is, ne, unless, within, _and_, _or_}
-use Rattle.model.specs.Names.{capitalName}
+use Rattle.model.specs.Bytes.{Bytes, sum, count, gather, run, one-if, is, unless, within, _and_, _or_}
 use Rattle.model.specs.Map.{mapBlocks, weight, bit, mapAt, free, restClear}
-use Rattle.model.specs.Directory.{Sort, inactive, directory, improper, file, sort, at, directoryType, volume, mapPlace, mapBlock, previous, next, activeCount, ftype, key, used, eof, directoryKey, chain, kids, active}
-use Rattle.model.specs.File.{Node, nodes, limb, pointer, blocksIn, firstBelow, heightFor, span, blocksOf, blocks}
+use Rattle.model.specs.Directory.{Sort, inactive, directory, improper, file, sort, at, directoryType, mapPlace, mapBlock, next, ftype, key, used, eof, chain, kids}
+use Rattle.model.specs.File.{Node, nodes, limb, pointer, blocksIn, firstBelow, span, blocksOf, blocks}
 use Rattle.model.specs.Walk.{Visit, visits}
-use Rattle.model.specs.Sound.{properSize, prodos, links, outside, late, twins, topFaults, faultsOf, faults, directoryFaults, fileFaults, owned, eachOnce, faultless, sound}
+use Rattle.model.specs.Sound.{properSize, prodos, links, outside, late, twins, topFaults, faultsOf, faults, directoryFaults, fileFaults, owned, sound}
 use Rattle.model.proofs.ByteLaws.{at-or-off, in-or-out}
 use Rattle.claims.specs.Claims.{Claim, block, must, Seen, with, claim, chainClaims, limbClaims, treeClaims, fileClaims, directoryClaims, claimsOf, claimsAt, volumeClaims, reserved, mapRight, fits}
 use Rattle.claims.proofs.SumLaws.{sum-append, sum-gather, sum-add, sum-same, sum-zero, gather-append, gather-gather, gather-same, map-gather, count-in, count-out, off-volume, on-volume}
-use Rattle.claims.proofs.TestLaws.{decide, both, and-true, and-false, or-one, one-most, none-off, is-same, is-other, unless-not, unless-below, zero-test, bit-right, below-more}
-use Rattle.claims.proofs.SoundFacts.{allFaults, Facts, sound-facts, facts-sound}
-use Rattle.claims.proofs.ClaimLaws.{must-on, must-off, block-on, block-outside, block-seen}
+use Rattle.claims.proofs.TestLaws.{decide, both, refuted, and-true, and-false, or-one, one-most, one-on, none-off, is-same, unless-not, unless-below, zero-test, bit-right, below-more}
+use Rattle.claims.proofs.SoundFacts.{Facts, sound-facts, facts-sound}
+use Rattle.claims.proofs.ClaimLaws.{block-on, block-outside, block-seen}
 
 -- A list of claims as tests and blocks: how many tests fail, and which blocks are claimed.
 abbrev pub failure : Claim → ℕ
@@ -55,6 +53,10 @@ pub record Made (n : ℕ) (cs : List Claim) (s s′ : Seen) : Type 0 where
 pub made-holds : {n : ℕ} {cs : List Claim} {s s′ : Seen} → Made n cs s s′ → Holds n cs s
 made-holds {s′ = s′} m =
     record { kept = m .kept; inside = m .inside; once = λ b. omega (arith, m .added b, one-most (s′ b)) }
+
+pub made-seen : {n : ℕ} {cs : List Claim} {s s′ : Seen} → Made n cs s s′ → (b : ℕ)
+    → (s′ b ≡ true) ↔ (1 ≤ count b (claimed cs) + one-if (s b))
+made-seen {s′ = s′} m b = rw (← m .added b) (one-on (s′ b))
 
 with-one : (b : ℕ) (s : Seen) → s b ≡ false → (x : ℕ) → one-if (with b s x) ≡ is x b + one-if (s x)
 unfolding with _or_
@@ -95,17 +97,22 @@ module _ (n : ℕ) where
   unfolding sum gather claim
   holds-claim [] s h = (s, refl)
   holds-claim (block b ∷ cs) s h =
-      let x : s b ≡ false = none-off (s b) (omega (arith, h .once b, is-same b b refl)) in
-      let l : b < n = leb-false n b (none-off (leb n b) (omega (arith, h .inside))) in
-      let r =
-      holds-claim cs (with b s)
-      (record {
-        kept = omega (arith, h .kept);
-        inside = omega (arith, h .inside);
-        once = λ y. omega (arith, h .once y, with-one b s x y);
-      })
-      in
-      (r .0, block-on n cs s b l x ∙ r .1)
+      let r = holds-claim cs (with b s) rest in
+      (r .0, block-on n cs s b below fresh ∙ r .1)
+    where
+      fresh : s b ≡ false
+      fresh = none-off (s b) (omega (arith, h .once b, is-same b b refl))
+
+      below : b < n
+      below = leb-false n b (none-off (leb n b) (omega (arith, h .inside)))
+
+      rest : Holds n cs (with b s)
+      rest =
+          record {
+            kept = omega (arith, h .kept);
+            inside = omega (arith, h .inside);
+            once = λ y. omega (arith, h .once y, with-one b s fresh y);
+          }
   holds-claim (must true ∷ cs) s h = holds-claim cs s (record { kept = omega (arith, h .kept); inside = h .inside; once = h .once })
   holds-claim (must false ∷ cs) s h = absurd (omega (arith, h .kept))
 
@@ -149,13 +156,14 @@ module _ (v : Bytes) where
     pub failed-tree : (h q k : ℕ) → failed (treeClaims v e h q k) ≡ late e (nodes v h q k)
     unfolding sum treeClaims nodes
     failed-tree zero q k = omega (arith, unless-below (firstBelow 0 q) e)
-    failed-tree (suc h) q k =
-        let below : failed (gather (limbClaims (treeClaims v e h) v q k) (run 0 256)) ≡ late e (gather (limb (nodes v h) v q k) (run 0 256)) =
-        sum-gather failure _ (run 0 256)
-        ∙ sum-same _ _ (run 0 256) (limb-same failed (late e) (treeClaims v e h) (nodes v h) refl (failed-tree h) q k)
-        ∙ sym (sum-gather _ _ (run 0 256))
-        in
-        omega (arith, unless-below (firstBelow (suc h) q) e)
+    failed-tree (suc h) q k = omega (arith, unless-below (firstBelow (suc h) q) e, below (failed-tree h))
+      where
+        below : ((q k : ℕ) → failed (treeClaims v e h q k) ≡ late e (nodes v h q k))
+            → failed (gather (limbClaims (treeClaims v e h) v q k) (run 0 256)) ≡ late e (gather (limb (nodes v h) v q k) (run 0 256))
+        below each =
+            sum-gather failure _ (run 0 256)
+            ∙ sum-same _ _ (run 0 256) (limb-same failed (late e) (treeClaims v e h) (nodes v h) refl each q k)
+            ∙ sym (sum-gather _ _ (run 0 256))
 
   pub claimed-of : (K : Sort) (l k s : ℕ) → claimed (claimsOf K v l k s) ≡ blocksOf K v s
   unfolding gather claimsOf directoryClaims fileClaims blocksOf
@@ -164,6 +172,11 @@ module _ (v : Bytes) where
   claimed-of improper l k s = refl
   claimed-of (file h) l k s =
       claimed-front (treeClaims v (span (eof v s)) h 0 (key v s)) _ refl ∙ claimed-tree (span (eof v s)) h 0 (key v s)
+
+-- the blocks of a file, whose number is compared with its blocks used
+pub file-blocks : (v : Bytes) (e h s : ℕ) → sort v s ≡ file h → blocks v s ≡ claimed (treeClaims v e h 0 (key v s))
+unfolding blocksOf
+file-blocks v e h s p = rw p (sym (claimed-tree v e h 0 (key v s)))
 
 failed-front : (xs ys : List Claim) (k : ℕ) → failed xs ≡ k → failed (xs ++ ys) ≡ k + failed ys
 failed-front xs ys k e = sum-append failure xs ys ∙ rw e
@@ -232,18 +245,20 @@ module _ (b : ℕ) where
   pub count-owned : (n : ℕ) (v : Bytes) → mapBlock v ≡ mapPlace
       → count b (owned n v) ≡ count b (claimed (volumeClaims v)) + one-if (reserved n b)
   unfolding sum owned reserved
-  count-owned n v e =
-      let m = mapBlocks n in
-      let walked = gather (λ w. blocks v (w .slot)) (visits v) in
-      let inMap = leb mapPlace b and ltb b (mapPlace + m) in
-      let listed : count b (run (mapBlock v) m ++ walked) ≡ one-if inMap + count b (claimed (volumeClaims v)) =
-      sum-append (is b) (run (mapBlock v) m) walked
-      ∙ ap₂ (λ x y. x + y) (ap (λ k. count b (run k m)) e ∙ in-run mapPlace m) (ap (count b) (sym (claimed-visits v (visits v))))
-      in
-      let apart : one-if (ltb b 2 or inMap) ≡ one-if (ltb b 2) + one-if inMap =
-      or-one (ltb b 2) inMap (λ p q. omega (arith, ltb-true b 2 p, leb-true mapPlace b (and-true (leb mapPlace b) _ .0 q .0)))
-      in
-      omega (arith, boot-blocks)
+  count-owned n v e = omega (arith, boot-blocks, listed, apart)
+    where
+      inMap : Bool
+      inMap = leb mapPlace b and ltb b (mapPlace + mapBlocks n)
+
+      listed : count b (run (mapBlock v) (mapBlocks n) ++ gather (λ w. blocks v (w .slot)) (visits v))
+          ≡ one-if inMap + count b (claimed (volumeClaims v))
+      listed =
+          sum-append (is b) (run (mapBlock v) (mapBlocks n)) _
+          ∙ ap₂ (λ x y. x + y) (ap (λ m. count b (run m (mapBlocks n))) e ∙ in-run mapPlace (mapBlocks n))
+          (ap (count b) (sym (claimed-visits v (visits v))))
+
+      apart : one-if (ltb b 2 or inMap) ≡ one-if (ltb b 2) + one-if inMap
+      apart = or-one (ltb b 2) inMap (λ p q. omega (arith, ltb-true b 2 p, leb-true mapPlace b (and-true (leb mapPlace b) _ .0 q .0)))
 
 -- the map, bit by bit
 free-most : (m : ℕ) (v : Bytes) (b : ℕ) → free m v b ≤ 1
@@ -259,6 +274,17 @@ map-right v s (suc n) =
       λ e. let p = and-true (Bool·beq (eqb (free mapPlace v n) 1) (not (s n))) _ .0 e in below-more n (all .0 (p .1)) (here .0 (p .0)),
       λ f. and-true _ _ .1 (here .1 (f n (omega arith)), all .1 (λ b l. f b (omega arith))),
     )
+
+-- a loop over the map, from block 0 up: one more bit is right, or one is wrong
+module _ (v : Bytes) (s : Seen) (i : ℕ) where
+  pub map-step : Bool·beq (eqb (free mapPlace v i) 1) (not (s i)) ≡ true → mapRight v s (i + 1) ≡ mapRight v s i
+  unfolding mapRight _and_
+  map-step e = rw (add-one, mapRight, e)
+
+  pub map-wrong : (n : ℕ) → i < n → Bool·beq (eqb (free mapPlace v i) 1) (not (s i)) ≡ false → mapRight v s n ≡ false
+  map-wrong n l e =
+      refuted (mapRight v s n)
+      (λ r. true≢false (sym (bit-right (free mapPlace v i) (s i) (free-most mapPlace v i) .1 (map-right v s n .0 r i l)) ∙ e))
 
 -- The decision is soundness.
 fits-some : (n : ℕ) (v : Bytes) (o : Option Seen) → fits n v o ≡ true → (s : Seen) × (o ≡ some s) × (mapRight v s n ≡ true)
@@ -306,7 +332,9 @@ module _ (n : ℕ) (v : Bytes) where
   pub decided : properSize n ≡ true → prodos n v ≡ true → mapBlock v ≡ mapPlace
       → (fits n v (claim n (volumeClaims v) (reserved n)) and restClear mapPlace v n) ≡ sound n v
   decided z h e =
-      both _ _ (λ t. let p = and-true (fits n v (claim n (volumeClaims v) (reserved n))) _ .0 t in facts-sound n v (decided-facts z h e (p .0) (p .1)))
+      both _ _
+      (λ t. let p = and-true (fits n v (claim n (volumeClaims v) (reserved n))) _ .0 t in
+      facts-sound n v (decided-facts z h e (p .0) (p .1)))
       (λ t. let f = sound-facts n v t in and-true _ _ .1 (facts-decided f, f .rest))
 
 -- the blocks of a chain that was claimed lie on the volume

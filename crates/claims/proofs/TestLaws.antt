@@ -1,5 +1,5 @@
 -- Tests, and what they count for. Assumes nothing.
-use mathlib.Core.Path.{_≡_, refl, sym, _∙_}
+use mathlib.Core.Path.{_≡_, refl, sym}
 use mathlib.Core.Bool.{Bool, true, false, not, false≢true, Bool·beq}
 use mathlib.Core.Logic.{_↔_}
 use Prim.Native.Nat.{ℕ, suc, _+_, _≤_, _<_}
@@ -43,6 +43,10 @@ or-one false b f = omega arith
 pub one-most : (t : Bool) → one-if t ≤ 1
 one-most true = omega arith
 one-most false = omega arith
+
+pub one-on : (t : Bool) → (t ≡ true) ↔ (1 ≤ one-if t)
+one-on true = (λ e. omega arith, λ h. refl)
+one-on false = (λ e. absurd (false≢true e), λ h. absurd (omega arith))
 
 pub none-off : (t : Bool) → one-if t ≡ 0 → t ≡ false
 none-off true e = absurd (omega arith)
