@@ -11,6 +11,7 @@ use Rattle.model.specs.Directory.{volume, kids, Sort, inactive, directory, impr
 use Rattle.model.specs.File.{blocks, blocksOf, nodes}
 use Rattle.model.specs.Walk.{levelMost, Visit, visit, walk, visits}
 use Rattle.model.specs.Sound.{outside, faults, faultsOf, faultless, directoryFaults, fileFaults, sound}
+use Rattle.claims.proofs.SoundFacts.{sound-facts}
 use Rattle.facts.specs.Reached.{Among, here, later, Met, top, down, Inside}
 
 pub sum-append : {A : Type 0} (g : A → ℕ) (xs ys : List A) → sum g (xs ++ ys) ≡ sum g xs + sum g ys
@@ -41,5 +42,20 @@ module _ (f : Visit ℕ → ℕ) (v : Bytes) where
       omega (arith, sum-append f w r, sum-append f w [])
 
   among-zero : (l d s : ℕ) (ss : List ℕ) → Among s ss → below l d (s ∷ []) ≤ below l d ss
-  among-zero l d s (s ∷ ss) here = omega (arith, split l d s ss)
-  among-zero l d s (t ∷ ss) (later a) = omega (arith, split l d t ss, among-zero l d s ss a)
+  among-zero l d s ss (here {ss = r}) = omega (arith, split l d s r)
+  among-zero l d s ss (later {t = t} {ss = r} a) = omega (arith, split l d t r, among-zero l d s r a)
+
+-- the faults of a slot that is met, and of all below it
+module _ (n : ℕ) (v : Bytes) where
+  weight : Visit ℕ → ℕ
+  weight w = faults n v (w .levels) (w .way) (w .slot)
+
+  met-all : {l d s : ℕ} → below weight v (suc levelMost) volume (volume ∷ []) ≡ 0 → Met v l d s → below weight v l d (s ∷ []) ≡ 0
+  met-all z top = z
+  met-all z (down {l = l} {d = d} {s = s} {t = t} m a) =
+      let up = met-all z m in
+      omega (arith, then-zero weight v l d s, among-zero weight v l s t (kids v s) a)
+
+  pub met-faults : {l d s : ℕ} → sound n v ≡ true → Met v l d s → faults n v l d s ≡ 0
+  unfolding below weight
+  met-faults {l} {d} {s} h m = omega (arith, met-all (sound-facts n v h .faultfree) m, first-zero weight v l d s)

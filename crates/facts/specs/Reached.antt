@@ -4,6 +4,7 @@ use mathlib.Core.List.{List, [], _∷_}
 use mathlib.Core.Path.{_≡_}
 use Rattle.model.specs.Bytes.{Bytes}
 use Rattle.model.specs.Directory.{volume, kids}
+use Rattle.model.specs.File.{pointer}
 use Rattle.model.specs.Walk.{levelMost}
 
 -- a slot stands in a list
@@ -20,3 +21,8 @@ pub data Met (v : Bytes) : ℕ → ℕ → ℕ → Type 0 where
 abbrev pub Inside : ℕ → List ℕ → Type 0
 Inside n [] = Unit {0}
 Inside n (b ∷ bs) = (b < n) × Inside n bs
+
+-- the block k of height h of a file, and all that its pointers lead to, is one of n blocks
+abbrev pub Deep : ℕ → Bytes → ℕ → ℕ → Type 0
+Deep n v zero k = k < n
+Deep n v (suc h) k = (k < n) × ((i : ℕ) → i < 256 → (pointer v k i ≡ 0 → ⊥) → Deep n v h (pointer v k i))
