@@ -42,6 +42,7 @@ below-pointer n f i (suc c) j l h k = go (eqb i j) refl (below-pointer n f (suc 
   where
     split : Inside n (blocksIn (f i) ++ blocksIn (gather f (run (suc i) c)))
     split = rw map-append at k
+
     go : (t : Bool) → eqb i j ≡ t → (suc i ≤ j → j < suc i + c → Inside n (blocksIn (gather f (run (suc i) c))) → Inside n (blocksIn (f j))) → Inside n (blocksIn (f j))
     go true e r = rw (← eqb-true i j e) (inside-left n (blocksIn (f i)) (blocksIn (gather f (run (suc i) c))) split)
     go false e r = let d = eqb-false i j e in r (omega arith) (omega arith) (inside-right n (blocksIn (f i)) (blocksIn (gather f (run (suc i) c))) split)
@@ -71,9 +72,9 @@ met-directory {n} {l} {d} {s} {v} h m e =
     let f : faultsOf directory n v l d s ≡ 0 = rw e at (met-faults n v h m) in
     let o : outside n (blocks v s) ≡ 0 = omega arith in
     record {
-    level = nonzero l (omega arith);
-    some = nonzero (used v s) (omega arith);
-    chained = inside n (chain v (key v s) (used v s)) (rw e at o)
+      level = nonzero l (omega arith);
+      some = nonzero (used v s) (omega arith);
+      chained = inside n (chain v (key v s) (used v s)) (rw e at o);
     }
 
 -- a data file that is met has the height of its EOF, and all its blocks are on the volume
@@ -94,6 +95,6 @@ met-file {n} {l} {d} {s} {h} {v} g m e =
     let f : faultsOf (file h) n v l d s ≡ 0 = rw e at (met-faults n v g m) in
     let o : outside n (blocks v s) ≡ 0 = omega arith in
     record {
-    tall = is-eq h (heightFor (eof v s)) (omega arith);
-    backed = deep n v h 0 (key v s) (inside n (blocksIn (nodes v h 0 (key v s))) (rw e at o))
+      tall = is-eq h (heightFor (eof v s)) (omega arith);
+      backed = deep n v h 0 (key v s) (inside n (blocksIn (nodes v h 0 (key v s))) (rw e at o));
     }

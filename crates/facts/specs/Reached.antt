@@ -3,7 +3,7 @@ use Prim.Native.Nat.{ℕ, zero, suc, _<_}
 use mathlib.Core.List.{List, [], _∷_}
 use mathlib.Core.Path.{_≡_}
 use Rattle.model.specs.Bytes.{Bytes}
-use Rattle.model.specs.Directory.{volume, kids}
+use Rattle.model.specs.Directory.{volume, kids, directory, sort, Target, noVolume, noDirectory, missing, there}
 use Rattle.model.specs.File.{pointer}
 use Rattle.model.specs.Walk.{levelMost}
 
@@ -26,3 +26,10 @@ Inside n (b ∷ bs) = (b < n) × Inside n bs
 abbrev pub Deep : ℕ → Bytes → ℕ → ℕ → Type 0
 Deep n v zero k = k < n
 Deep n v (suc h) k = (k < n) × ((i : ℕ) → i < 256 → (pointer v k i ≡ 0 → ⊥) → Deep n v h (pointer v k i))
+
+-- what a path leads to on a sound volume: a directory that the walk meets, and an entry of it
+pub data Led (v : Bytes) : Target → Type 0 where
+  led-nowhere : Led v noVolume
+  led-astray : Led v noDirectory
+  led-missing : {l e d : ℕ} → Met v l e d → sort v d ≡ directory → Led v (missing d)
+  led-there : {l k e d s : ℕ} → Met v k e d → sort v d ≡ directory → Met v l d s → Led v (there d s)
