@@ -1,16 +1,16 @@
 -- What is known of a sound volume, as plain facts. Assumes nothing.
 use mathlib.Core.Path.{_≡_, refl, sym, subst}
-use mathlib.Core.List.{List, [], _∷_, _++_}
+use mathlib.Core.List.{List}
 use mathlib.Core.Bool.{Bool, true, false, false≢true}
 use mathlib.Core.Logic.{_↔_}
 use Prim.Native.Nat.{ℕ, zero, suc, _+_, _≤_, _<_}
 use native.Mathlib.Omega.{arith}
 use borrow.Author.Tests.{eqb-true, eqb-false, eq-eqb, leb-true, le-leb}
 use lib.Dec.{eqb, leb}
-use Rattle.model.specs.Bytes.{Bytes, sum, count, gather, ne, within, _and_}
+use Rattle.model.specs.Bytes.{Bytes, sum, count, gather, within}
 use Rattle.model.specs.Map.{free, restClear}
-use Rattle.model.specs.Directory.{sort, volume, mapPlace, mapBlock}
-use Rattle.model.specs.Walk.{Visit, walk, visits}
+use Rattle.model.specs.Directory.{sort, mapPlace, mapBlock}
+use Rattle.model.specs.Walk.{walk, visits}
 use Rattle.model.specs.Sound.{properSize, prodos, volumeFaults, topFaults, directoryFaults, faultsOf, faults, owned, eachOnce, faultless, sound}
 use Rattle.claims.proofs.TestLaws.{refuted, and-true, ne-zero, below-more}
 
