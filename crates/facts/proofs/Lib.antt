@@ -1,3 +1,4 @@
 pub mod MetLaws
 pub mod BlockLaws
 pub mod LookupLaws
+pub mod SlotLaws
