@@ -1,0 +1,1 @@
+-- Marks set in a slice, and what a step of a loop leaves to claim, to count and to compare. Assumes nothing.
