@@ -1,38 +1,46 @@
+-- `marks::claim_block` meets its contract. A bit that is clear is set, as a map gives a block. Assumes nothing.
+use mathlib.Core.Path.{sym, _∙_}
+use mathlib.Core.List.{[]}
+use native.Mathlib.Omega.{arith}
+use Rattle.model.specs.Map.{mapAt}
+use Rattle.claims.proofs.ClaimLaws.{block-outside, block-seen}
+use Rattle.marks.specs.Marks.{marks}
+use Rattle.marks.proofs.Laws.{marks-free, marked, block-marked}
 use borrow.Author.Needs.{needs}
 use Rattle.marks.proofs.claim_block.Statement.{statement}
 use Rattle.marks.proofs.claim_block.Tie as tie
-use Rattle.marks.proofs.claim_block.Reads as reads
-use Rattle.marks.proofs.claim_block.Lts as lts
-use Rattle.map.proofs.give.Reads as give-reads
-use Rattle.map.proofs.is_free.Reads as is-free-reads
 
--- src/lib.rt:25:9
 returns : tie.Need-returns
-returns c = search needs
+returns c =
+    let a = c .before .before .args in
+    sym (block-outside (a .n) [] (marks (a .seen .now)) (a .b) (c .if1 .taken))
 
--- src/lib.rt:27:8
 is-free-requires : tie.Need-is-free-requires
-is-free-requires c κs = search needs
+unfolding mapAt
+is-free-requires c κs = omega arith
 
--- src/lib.rt:28:9
 same-length : tie.Need-same-length
 same-length c = search needs
 
--- src/lib.rt:28:9
 returns-2 : tie.Need-returns-2
-returns-2 c = search needs
+returns-2 c =
+    let a = c .before .before .before .before .before .args in
+    sym (block-seen (a .n) [] (marks (a .seen .now)) (a .b) (marks-free (a .seen .now) (a .b) ∙ sym (c .before .is-free .ensures) ∙ c .if2 .taken))
 
--- src/lib.rt:30:5
 give-requires : tie.Need-give-requires
-give-requires c κs = search needs
+unfolding mapAt
+give-requires c κs = omega arith
 
--- src/lib.rt:20:1
 same-length-2 : tie.Need-same-length-2
 same-length-2 c = search needs
 
--- src/lib.rt:20:1
 returns-3 : tie.Need-returns-3
-returns-3 c = search needs
+returns-3 c =
+    let a = c .before .before .before .before .before .before .before .before .before .args in
+    let g = c .before .before .give in
+    let clear = marks-free (a .seen .now) (a .b) ∙ sym (c .before .before .before .before .before .is-free .ensures) ∙ c .before .before .before .before .if2 .left in
+    let mark = marked (a .seen .now) (g .last .0) (a .b) (λ x. omega (arith, c .before .before .before .before .before .before .before .before .slice-known .given x)) (g .ensures) in
+    block-marked (a .n) (a .b) (marks (a .seen .now)) (marks (g .last .0)) (c .before .before .before .before .before .before .before .if1 .left) clear mark
 
 pub claim-block-spec : {M : Type 1} → statement M
 claim-block-spec =

@@ -1,80 +1,128 @@
-use borrow.Author.Needs.{needs}
+-- `marks::claim_chain` meets its contract. The loop's invariant: the claims of the chain that is left, after what is marked, are those of the whole. The measure is the blocks left. Assumes nothing.
+use mathlib.Core.Path.{_≡_, refl, _∙_}
+use Prim.Native.Nat.{_-_}
+use native.Mathlib.Omega.{arith}
+use lib.ListN.{length}
+use borrow.Author.Tests.{not-true, not-false}
+use Rattle.model.specs.Bytes.{view}
+use Rattle.claims.specs.Claims.{claim, chainClaims}
+use Rattle.marks.specs.Marks.{marks}
+use Rattle.marks.proofs.Laws.{on-volume, chain-refused, chain-broken, chain-on, chain-done}
 use Rattle.marks.proofs.claim_chain.Statement.{statement}
 use Rattle.marks.proofs.claim_chain.Tie as tie
-use Rattle.marks.proofs.claim_chain.Reads as reads
-use Rattle.marks.proofs.claim_chain.Lts as lts
-use Rattle.marks.proofs.claim_block.Reads as claim-block-reads
-use Rattle.store.proofs.get_word.Reads as get-word-reads
 
 abbrev Inv-loop : tie.InvT-loop
-Inv-loop img seen₀ key used n previous₀ b₀ left₀ seen previous b left = ?
+Inv-loop img seen₀ key used n previous₀ b₀ left₀ seen previous b left =
+    (length seen ≡ 8192)
+    × (claim n (chainClaims (view img) previous b left) (marks seen) ≡ claim n (chainClaims (view img) 0 key used) (marks seen₀))
 
 abbrev μ-loop : tie.MeasureT-loop
-μ-loop img seen₀ key used n previous₀ b₀ left₀ seen previous b left = ?
+μ-loop img seen₀ key used n previous₀ b₀ left₀ seen previous b left = left
 
--- src/lib.rt:57:5
 loop-holds : tie.Need-loop-holds Inv-loop μ-loop
-loop-holds c = search needs
+loop-holds c = (omega arith, refl)
 
--- src/lib.rt:58:13
 claim-block-requires : tie.Need-claim-block-requires Inv-loop μ-loop
-claim-block-requires c κs = search needs
+claim-block-requires c κs = omega arith
 
--- src/lib.rt:59:13
 same-length : tie.Need-same-length Inv-loop μ-loop
-same-length c = search needs
+same-length c = omega arith
 
--- src/lib.rt:59:13
 returns : tie.Need-returns Inv-loop μ-loop
-returns c = search needs
+returns c =
+    let a = c .before .before .before .before .before .before .before .before .before .args in
+    let l = c .before .before .before .before .before .before .loop in
+    let k = c .before .before .before .claim-block in
+    let v = view (a .img .now) in
+    chain-refused (a .n) v (l .previous) (l .b) (l .left) (marks (l .seen)) (marks (k .last .0)) (k .result) (c .before .before .before .before .before .loop-test .taken)
+    (k .ensures) (not-true _ (c .if1 .taken))
+    ∙ l .inv .1
 
--- src/lib.rt:61:33
 mul-get-word : tie.Need-mul-get-word Inv-loop μ-loop
-mul-get-word c = search needs
+mul-get-word c =
+    let a = c .before .before .before .before .before .before .before .before .before .args in
+    let l = c .before .before .before .before .before .before .loop in
+    let k = c .before .before .before .claim-block in
+    let v = view (a .img .now) in
+    let on = on-volume (a .n) (l .b) (marks (l .seen)) (marks (k .last .0)) (k .result) (not-false _ (c .if1 .left)) (k .ensures) in
+    omega arith
 
--- src/lib.rt:61:12
 get-word-requires : tie.Need-get-word-requires Inv-loop μ-loop
-get-word-requires c κs = search needs
+get-word-requires c κs =
+    let a = c .before .before .before .before .before .before .before .before .before .args in
+    let l = c .before .before .before .before .before .before .loop in
+    let k = c .before .before .before .claim-block in
+    let v = view (a .img .now) in
+    let on = on-volume (a .n) (l .b) (marks (l .seen)) (marks (k .last .0)) (k .result) (not-false _ (c .if1 .left)) (k .ensures) in
+    omega arith
 
--- src/lib.rt:62:13
 same-length-2 : tie.Need-same-length-2 Inv-loop μ-loop
-same-length-2 c = search needs
+same-length-2 c = omega arith
 
--- src/lib.rt:62:13
 returns-2 : tie.Need-returns-2 Inv-loop μ-loop
-returns-2 c = search needs
+returns-2 c =
+    let a = c .before .before .before .before .before .before .before .before .before .before .before .args in
+    let l = c .before .before .before .before .before .before .before .before .loop in
+    let k = c .before .before .before .before .before .claim-block in
+    let v = view (a .img .now) in
+    let w = c .before .get-word in
+    chain-broken (a .n) v (l .previous) (l .b) (l .left) (marks (l .seen)) (marks (k .last .0)) (k .result) (c .before .before .before .before .before .before .before .loop-test .taken)
+    (k .ensures) (w .result) (w .ensures .0) (c .if2 .taken) (not-false _ (c .before .before .if1 .left))
+    ∙ l .inv .1
 
--- src/lib.rt:65:34
 mul-get-word-2 : tie.Need-mul-get-word-2 Inv-loop μ-loop
-mul-get-word-2 c = search needs
+mul-get-word-2 c =
+    let a = c .before .before .before .before .before .before .before .before .before .before .before .args in
+    let l = c .before .before .before .before .before .before .before .before .loop in
+    let k = c .before .before .before .before .before .claim-block in
+    let v = view (a .img .now) in
+    let on = on-volume (a .n) (l .b) (marks (l .seen)) (marks (k .last .0)) (k .result) (not-false _ (c .before .before .if1 .left)) (k .ensures) in
+    omega arith
 
--- src/lib.rt:65:34
 add-get-word : tie.Need-add-get-word Inv-loop μ-loop
-add-get-word c = search needs
+add-get-word c =
+    let a = c .before .before .before .before .before .before .before .before .before .before .before .args in
+    let l = c .before .before .before .before .before .before .before .before .loop in
+    let k = c .before .before .before .before .before .claim-block in
+    let v = view (a .img .now) in
+    let on = on-volume (a .n) (l .b) (marks (l .seen)) (marks (k .last .0)) (k .result) (not-false _ (c .before .before .if1 .left)) (k .ensures) in
+    omega arith
 
--- src/lib.rt:65:9
 get-word-requires-2 : tie.Need-get-word-requires-2 Inv-loop μ-loop
-get-word-requires-2 c κs = search needs
+get-word-requires-2 c κs =
+    let a = c .before .before .before .before .before .before .before .before .before .before .before .args in
+    let l = c .before .before .before .before .before .before .before .before .loop in
+    let k = c .before .before .before .before .before .claim-block in
+    let v = view (a .img .now) in
+    let on = on-volume (a .n) (l .b) (marks (l .seen)) (marks (k .last .0)) (k .result) (not-false _ (c .before .before .if1 .left)) (k .ensures) in
+    omega arith
 
--- src/lib.rt:66:9
 sub-left : tie.Need-sub-left Inv-loop μ-loop
-sub-left c = search needs
+sub-left c = omega arith
 
--- src/lib.rt:57:5
 loop-less : tie.Need-loop-less Inv-loop μ-loop
-loop-less c = search needs
+loop-less c = omega arith
 
--- src/lib.rt:57:5
 loop-again : tie.Need-loop-again Inv-loop μ-loop
-loop-again c = search needs
+loop-again c =
+    let a = c .before .before .before .before .before .before .before .before .before .before .before .before .args in
+    let l = c .before .before .before .before .before .before .before .before .before .loop in
+    let k = c .before .before .before .before .before .before .claim-block in
+    let v = view (a .img .now) in
+    let w = c .before .before .get-word in
+    let x = c .get-word2 in
+    let on = chain-on (a .n) v (l .previous) (l .b) (l .left) (marks (l .seen)) (marks (k .last .0)) (k .result) (c .before .before .before .before .before .before .before .before .loop-test .taken)
+        (k .ensures) (w .result) (x .result) (w .ensures .0) (c .before .if2 .left) (x .ensures .0) (not-false _ (c .before .before .before .if1 .left)) in
+    (omega arith, on ∙ l .inv .1)
 
--- src/lib.rt:50:1
 same-length-3 : tie.Need-same-length-3 Inv-loop μ-loop
-same-length-3 c = search needs
+same-length-3 c = omega arith
 
--- src/lib.rt:50:1
 returns-3 : tie.Need-returns-3 Inv-loop μ-loop
-returns-3 c = search needs
+returns-3 c =
+    let a = c .before .before .before .before .args in
+    let l = c .before .loop in
+    chain-done (a .n) (view (a .img .now)) (l .previous) (l .b) (l .left) (marks (l .seen)) (c .loop-test .left) ∙ l .inv .1
 
 pub claim-chain-spec : {M : Type 1} → statement M
 claim-chain-spec =

@@ -1,25 +1,30 @@
+-- `marks::claim_node` meets its contract. The test comes first. Assumes nothing.
+use mathlib.Core.Path.{sym, _∙_}
+use mathlib.Core.List.{[], _∷_}
+use borrow.Author.Tests.{lt-ltb, le-ltb}
+use Rattle.claims.specs.Claims.{block}
+use Rattle.claims.proofs.ClaimLaws.{must-on, must-off}
+use Rattle.marks.specs.Marks.{marks}
 use borrow.Author.Needs.{needs}
 use Rattle.marks.proofs.claim_node.Statement.{statement}
 use Rattle.marks.proofs.claim_node.Tie as tie
-use Rattle.marks.proofs.claim_node.Reads as reads
-use Rattle.marks.proofs.claim_node.Lts as lts
-use Rattle.marks.proofs.claim_block.Reads as claim-block-reads
 
--- src/lib.rt:77:9
 returns : tie.Need-returns
-returns c = search needs
+returns c =
+    let a = c .before .before .args in
+    sym (must-off (a .n) (block (a .b) ∷ []) (marks (a .seen .now)) _ (le-ltb (a .first) (a .end) (c .if1 .taken)))
 
--- src/lib.rt:79:5
 claim-block-requires : tie.Need-claim-block-requires
 claim-block-requires c κs = search needs
 
--- src/lib.rt:72:1
 same-length : tie.Need-same-length
 same-length c = search needs
 
--- src/lib.rt:72:1
 returns-2 : tie.Need-returns-2
-returns-2 c = search needs
+returns-2 c =
+    let a = c .before .before .before .before .before .before .args in
+    c .before .before .claim-block .ensures
+    ∙ sym (must-on (a .n) (block (a .b) ∷ []) (marks (a .seen .now)) _ (lt-ltb (a .first) (a .end) (c .before .before .before .before .if1 .left)))
 
 pub claim-node-spec : {M : Type 1} → statement M
 claim-node-spec = tie.close (tie.spec returns claim-block-requires same-length returns-2)

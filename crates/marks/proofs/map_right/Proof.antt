@@ -1,47 +1,62 @@
-use borrow.Author.Needs.{needs}
+-- `marks::map_right` meets its contract. The loop's invariant: what is left to compare decides. The measure is the blocks left. Assumes nothing.
+use mathlib.Core.Path.{_≡_, refl, sym, _∙_}
+use Prim.Native.Nat.{_-_, _≤_}
+use native.Mathlib.Omega.{arith}
+use Rattle.model.specs.Bytes.{view}
+use Rattle.model.specs.Map.{mapAt}
+use Rattle.claims.specs.Claims.{mapRight}
+use Rattle.marks.specs.Marks.{marks}
+use Rattle.marks.proofs.Laws.{marks-free, map-on, map-off, map-none}
 use Rattle.marks.proofs.map_right.Statement.{statement}
 use Rattle.marks.proofs.map_right.Tie as tie
-use Rattle.marks.proofs.map_right.Reads as reads
-use Rattle.marks.proofs.map_right.Lts as lts
-use Rattle.map.proofs.is_free.Reads as is-free-reads
 
 abbrev Inv-loop : tie.InvT-loop
-Inv-loop img seen n left₀ left = ?
+Inv-loop img seen n left₀ left = (left ≤ n) × (mapRight (view img) (marks seen) left ≡ mapRight (view img) (marks seen) n)
 
 abbrev μ-loop : tie.MeasureT-loop
-μ-loop img seen n left₀ left = ?
+μ-loop img seen n left₀ left = left
 
--- src/lib.rt:177:5
 loop-holds : tie.Need-loop-holds Inv-loop μ-loop
-loop-holds c = search needs
+loop-holds c = (omega arith, refl)
 
--- src/lib.rt:178:17
 sub-b : tie.Need-sub-b Inv-loop μ-loop
-sub-b c = search needs
+sub-b c = omega arith
 
--- src/lib.rt:179:12
 is-free-requires : tie.Need-is-free-requires Inv-loop μ-loop
-is-free-requires c κs = search needs
+unfolding mapAt
+is-free-requires c κs = omega arith
 
--- src/lib.rt:179:39
 is-free-requires-2 : tie.Need-is-free-requires-2 Inv-loop μ-loop
-is-free-requires-2 c κs = search needs
+unfolding mapAt
+is-free-requires-2 c κs = omega arith
 
--- src/lib.rt:180:13
 returns : tie.Need-returns Inv-loop μ-loop
-returns c = search needs
+returns c =
+    let a = c .before .before .before .before .before .before .before .args in
+    let l = c .before .before .before .before .loop in
+    let f = c .before .before .is-free in
+    let m = c .before .is-free2 in
+    map-off (view (a .img .now)) (marks (a .seen .now)) (f .result) (m .result) (l .left) (f .ensures)
+    (m .ensures ∙ sym (marks-free (a .seen .now) (l .left - 1))) (c .before .before .before .loop-test .taken) (c .if1 .taken)
+    ∙ l .inv .1
 
--- src/lib.rt:177:5
 loop-less : tie.Need-loop-less Inv-loop μ-loop
-loop-less c = search needs
+loop-less c = omega arith
 
--- src/lib.rt:177:5
 loop-again : tie.Need-loop-again Inv-loop μ-loop
-loop-again c = search needs
+loop-again c =
+    let a = c .before .before .before .before .before .before .before .args in
+    let l = c .before .before .before .before .loop in
+    let f = c .before .before .is-free in
+    let m = c .before .is-free2 in
+    let on = map-on (view (a .img .now)) (marks (a .seen .now)) (f .result) (m .result) (l .left) (f .ensures)
+        (m .ensures ∙ sym (marks-free (a .seen .now) (l .left - 1))) (c .before .before .before .loop-test .taken) (c .if1 .left) in
+    (omega arith, on ∙ l .inv .1)
 
--- src/lib.rt:172:1
 returns-2 : tie.Need-returns-2 Inv-loop μ-loop
-returns-2 c = search needs
+returns-2 c =
+    let a = c .before .before .before .before .args in
+    map-none (view (a .img .now)) (marks (a .seen .now)) (c .before .loop .left) (omega arith) ∙ c .before .loop .inv .1
 
 pub map-right-spec : {M : Type 1} → statement M
 map-right-spec =

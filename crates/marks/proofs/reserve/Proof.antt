@@ -1,60 +1,84 @@
+-- `marks::reserve` meets its contract. The loop's invariant: the boot blocks and the map's before b are marked. The measure is the map blocks left. Assumes nothing.
+use mathlib.Core.Path.{_≡_, ap, _∙_}
+use Prim.Native.Nat.{_+_, _-_, _≤_}
+use native.Mathlib.Omega.{arith}
+use lib.ListN.{length}
+use Rattle.model.specs.Bytes.{view, Octets}
+use Rattle.model.specs.Map.{mapAt, mapBlocks}
+use Rattle.claims.specs.Claims.{with}
+use Rattle.marks.specs.Marks.{marks}
+use Rattle.marks.proofs.Laws.{marked, reservedTo, reserve-start, reserve-step, reserve-end}
 use borrow.Author.Needs.{needs}
 use Rattle.marks.proofs.reserve.Statement.{statement}
 use Rattle.marks.proofs.reserve.Tie as tie
-use Rattle.marks.proofs.reserve.Reads as reads
-use Rattle.marks.proofs.reserve.Lts as lts
-use Rattle.map.proofs.give.Reads as give-reads
-use Rattle.map.proofs.map_blocks.Reads as map-blocks-reads
 
 abbrev Inv-loop : tie.InvT-loop
-Inv-loop seen₀ n map-end b₀ seen b = ?
+Inv-loop seen₀ n map-end b₀ seen b = (6 ≤ b) × (b ≤ map-end) × (length seen ≡ 8192) × (marks seen ≡ reservedTo b) × Octets (view seen)
 
 abbrev μ-loop : tie.MeasureT-loop
-μ-loop seen₀ n map-end b₀ seen b = ?
+μ-loop seen₀ n map-end b₀ seen b = map-end - b
 
--- src/lib.rt:39:5
 give-requires : tie.Need-give-requires Inv-loop μ-loop
-give-requires c κs = search needs
+unfolding mapAt
+give-requires c κs = omega arith
 
--- src/lib.rt:40:5
 give-requires-2 : tie.Need-give-requires-2 Inv-loop μ-loop
-give-requires-2 c κs = search needs
+unfolding mapAt
+give-requires-2 c κs = omega arith
 
--- src/lib.rt:41:23
 map-blocks-requires : tie.Need-map-blocks-requires Inv-loop μ-loop
 map-blocks-requires c κs = search needs
 
--- src/lib.rt:41:19
 add-map-end : tie.Need-add-map-end Inv-loop μ-loop
-add-map-end c = search needs
+unfolding mapBlocks
+add-map-end c = omega arith
 
--- src/lib.rt:43:5
 loop-holds : tie.Need-loop-holds Inv-loop μ-loop
-loop-holds c = search needs
+loop-holds c =
+    let l = c .before .before .before .before .before .before .before .before .before .before .args .seen .now in
+    let g = c .before .before .before .before .before .before .before .give in
+    let g2 = c .before .before .before .give2 in
+    let one = marked l (g .last .0) 0 (λ x. omega (arith, c .before .before .before .before .before .before .before .before .before .slice-known .given x)) (g .ensures) in
+    let two = marked (g .last .0) (g2 .last .0) 1 (λ x. omega (arith, c .before .before .before .before .before .slice-known2 .given x)) (g2 .ensures) in (
+      omega arith,
+      omega arith,
+      omega arith,
+      two ∙ ap (with 1) (one ∙ ap (with 0) (c .before .before .before .before .before .before .before .before .before .before .pre .2)) ∙ reserve-start,
+      λ x. omega (arith, c .before .slice-known3 .given x),
+    )
 
--- src/lib.rt:44:9
 give-requires-3 : tie.Need-give-requires-3 Inv-loop μ-loop
-give-requires-3 c κs = search needs
+unfolding mapAt mapBlocks
+give-requires-3 c κs = omega arith
 
--- src/lib.rt:45:9
 add-b : tie.Need-add-b Inv-loop μ-loop
-add-b c = search needs
+unfolding mapBlocks
+add-b c = omega arith
 
--- src/lib.rt:43:5
 loop-less : tie.Need-loop-less Inv-loop μ-loop
-loop-less c = search needs
+loop-less c = omega arith
 
--- src/lib.rt:43:5
 loop-again : tie.Need-loop-again Inv-loop μ-loop
-loop-again c = search needs
+loop-again c =
+    let l = c .before .before .before .before .before .loop in
+    let g = c .before .before .give3 in
+    let mark = marked (l .seen) (g .last .0) (l .b) (l .inv .4) (g .ensures) in (
+      omega arith,
+      omega arith,
+      omega arith,
+      mark ∙ ap (with (l .b)) (l .inv .3) ∙ reserve-step (l .b) (l .inv .0),
+      λ x. omega (arith, c .slice-known4 .given x),
+    )
 
--- src/lib.rt:35:1
 same-length : tie.Need-same-length Inv-loop μ-loop
 same-length c = search needs
 
--- src/lib.rt:35:1
 returns : tie.Need-returns Inv-loop μ-loop
-returns c = search needs
+returns c =
+    let l = c .before .loop in
+    let n = c .before .before .before .before .before .before .before .before .before .before .before .before .args .n in
+    let e : l .b ≡ 6 + mapBlocks n = omega arith in
+    l .inv .3 ∙ reserve-end n (l .b) e
 
 pub reserve-spec : {M : Type 1} → statement M
 reserve-spec =
