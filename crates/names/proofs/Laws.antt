@@ -1,0 +1,120 @@
+-- One step of each test on a run of bytes, for the loops that make it. Assumes nothing.
+use mathlib.Core.Path.{_≡_, refl}
+use mathlib.Core.Bool.{Bool, true, false}
+use mathlib.Core.List.{[]}
+use Prim.Native.Nat.{ℕ, zero, suc, _+_, _-_, _≤_, _<_}
+use native.Mathlib.Omega.{arith}
+use borrow.Author.Tests.{eq-eqb, ne-eqb, le-leb, lt-leb, leb-true}
+use Rattle.model.specs.Bytes.{Bytes, equalBytes, _and_, within}
+use Rattle.model.specs.Names.{slash, capital, nameByte, nameBytes, nameEnd, properParts}
+use Rattle.names.specs.Steps.{lastStart}
+
+and-false : (b : Bool) → b and false ≡ false
+unfolding _and_
+and-false true = refl
+and-false false = refl
+
+pub and-left : (a b : Bool) → a and b ≡ true → a ≡ true
+unfolding _and_
+and-left true b e = refl
+and-left false b e = e
+
+pub and-right : (a b : Bool) → a and b ≡ true → b ≡ true
+unfolding _and_
+and-right true b e = e
+and-right false b e = let z : _≡_ {A = ℕ} 0 1 = cc in absurd (let w : ⊥ = omega arith in w)
+
+pub within-in : (low high x : ℕ) → low ≤ x → x ≤ high → within low high x ≡ true
+unfolding within _and_
+within-in low high x p q = rw (le-leb low x p, le-leb x high q)
+
+pub within-below : (low high x : ℕ) → x < low → within low high x ≡ false
+unfolding within _and_
+within-below low high x p = rw (lt-leb low x p)
+
+pub within-above : (low high x : ℕ) → high < x → within low high x ≡ false
+unfolding within _and_
+within-above low high x p = rw (lt-leb x high p, and-false)
+
+pub within-true : (low high x : ℕ) → within low high x ≡ true → (low ≤ x) × (x ≤ high)
+unfolding within
+within-true low high x e = (leb-true low x (and-left _ _ e), leb-true x high (and-right _ _ e))
+
+pub capital-small : (c : ℕ) → within 97 122 c ≡ true → capital c ≡ c - 32
+unfolding capital
+capital-small c e = rw (e, capital)
+
+pub capital-other : (c : ℕ) → within 97 122 c ≡ false → capital c ≡ c
+unfolding capital
+capital-other c e = rw (e, capital)
+
+module _ (p : Bytes) (a : ℕ) where
+  pub bytes-more : (k m : ℕ) → k ≡ suc m → nameByte (p a) ≡ true → nameBytes p a k ≡ nameBytes p (a + 1) m
+  unfolding nameBytes
+  bytes-more k m e h = rw (e, h, nameBytes)
+
+  pub bytes-not : (k m : ℕ) → k ≡ suc m → nameByte (p a) ≡ false → nameBytes p a k ≡ false
+  unfolding nameBytes
+  bytes-not k m e h = rw (e, h, nameBytes)
+
+  pub bytes-none : nameBytes p a 0 ≡ true
+  unfolding nameBytes
+  bytes-none = refl
+
+  pub end-here : (k : ℕ) → p a ≡ slash → nameEnd p a k ≡ a
+  unfolding nameEnd
+  end-here zero h = refl
+  end-here (suc k) h = rw (eq-eqb _ _ h, nameEnd)
+
+  pub end-more : (k m : ℕ) → k ≡ suc m → (p a ≡ slash → ⊥) → nameEnd p a k ≡ nameEnd p (a + 1) m
+  unfolding nameEnd
+  end-more k m e h = rw (e, ne-eqb _ _ h, nameEnd)
+
+  pub end-none : nameEnd p a 0 ≡ a
+  unfolding nameEnd
+  end-none = refl
+
+-- runs of n bytes, of which i were found equal
+module _ (f g : Bytes) (a b n : ℕ) where
+  pub equal-start : equalBytes f a g b n ≡ equalBytes f (a + 0) g (b + 0) (n - 0)
+  equal-start =
+      let x : a + 0 ≡ a = omega arith in
+      let y : b + 0 ≡ b = omega arith in
+      let z : n - 0 ≡ n = omega arith in
+      rw (x, y, z)
+
+  pub equal-more : (i : ℕ) → i < n → f (a + i) ≡ g (b + i)
+      → equalBytes f (a + i) g (b + i) (n - i) ≡ equalBytes f (a + (i + 1)) g (b + (i + 1)) (n - (i + 1))
+  unfolding equalBytes
+  equal-more i l h =
+      let e : n - i ≡ suc (n - (i + 1)) = omega arith in
+      let x : a + (i + 1) ≡ a + i + 1 = omega arith in
+      let y : b + (i + 1) ≡ b + i + 1 = omega arith in
+      rw (x, y, e, eq-eqb _ _ h, equalBytes)
+
+  pub equal-not : (i : ℕ) → i < n → (f (a + i) ≡ g (b + i) → ⊥) → equalBytes f (a + i) g (b + i) (n - i) ≡ false
+  unfolding equalBytes
+  equal-not i l h =
+      let e : n - i ≡ suc (n - (i + 1)) = omega arith in
+      rw (e, ne-eqb _ _ h, equalBytes)
+
+  pub equal-all : (i : ℕ) → n ≤ i → equalBytes f (a + i) g (b + i) (n - i) ≡ true
+  unfolding equalBytes
+  equal-all i l = let e : n - i ≡ 0 = omega arith in rw e
+
+module _ (p : Bytes) where
+  pub last-here : (n m : ℕ) → n ≡ suc m → p m ≡ slash → lastStart p n ≡ n
+  unfolding lastStart
+  last-here n m e h = rw (e, eq-eqb _ _ h, lastStart)
+
+  pub last-more : (n m : ℕ) → n ≡ suc m → (p m ≡ slash → ⊥) → lastStart p n ≡ lastStart p m
+  unfolding lastStart
+  last-more n m e h = rw (e, ne-eqb _ _ h, lastStart)
+
+  pub last-none : lastStart p 0 ≡ 0
+  unfolding lastStart
+  last-none = refl
+
+pub no-parts : (p : Bytes) → properParts p [] ≡ true
+unfolding properParts
+no-parts p = refl
