@@ -10,30 +10,28 @@ use native.Mathlib.Numerals.{sub-one}
 use native.Mathlib.Omega.{arith}
 use borrow.Author.Tests.{eq-eqb, ne-eqb, eqb-true, eqb-false, leb-true, leb-false, le-leb, not-true}
 use lib.Dec.{eqb, leb}
-use lib.ListN.{length, drop}
-use Rattle.model.specs.Bytes.{Bytes, gather, sum, run, within, _and_}
+use lib.ListN.{length}
+use Rattle.model.specs.Bytes.{Bytes, gather, sum, within, _and_}
 use Rattle.model.specs.Names.{capitalName}
-use Rattle.model.specs.Map.{restClear}
 use Rattle.model.specs.Kinds.{kindNumber}
-use Rattle.model.specs.Directory.{Sort, inactive, directory, improper, file, sortOf, sort, isActive, at, directoryType, volume, volumeBlock, mapPlace, previous, next, headerKind, activeCount, field, ftype, key, used, eof, directoryKey, chain, slots, slotsBelow, kids, active}
+use Rattle.model.specs.Directory.{Sort, inactive, directory, improper, file, sortOf, sort, isActive, at, directoryType, volume, volumeBlock, previous, next, headerKind, activeCount, field, ftype, key, used, eof, directoryKey, chain, slots, slotsBelow, kids, active}
 use Rattle.model.specs.File.{Node, heightFor, span, nodes, blocks, blocksOf}
-use Rattle.model.specs.Walk.{levelMost, visit}
+use Rattle.model.specs.Walk.{visit}
 use Rattle.model.specs.Sound.{properSize, prodos, twins, topFaults, volumeFaults, headerFaults, outside}
 use Rattle.model.specs.declared.Kind.{Kind}
 use Rattle.model.specs.declared.Kind.the-variants.{Seedling, Sapling, Tree, Directory}
 use Rattle.claims.specs.Claims.{Claim, block, must, Seen, claim, outcome, chainClaims, treeClaims, fileClaims, directoryClaims, claimsOf, claimsAt, claims, volumeClaims, reserved, mapRight, fits}
 use Rattle.claims.proofs.TestLaws.{decide, none-off, and-true}
-use Rattle.claims.proofs.SumLaws.{gather-same}
-use Rattle.claims.proofs.ClaimLaws.{taken, refused, claim-append, must-on, must-off, claims-deep, claims-flat, claims-none}
+use Rattle.claims.proofs.ClaimLaws.{taken, refused, must-on, must-off, claims-deep, claims-flat, claims-none}
 use Rattle.claims.proofs.Agreement.{chain-inside}
 use Rattle.checks.specs.Inside.{Inside, ahead}
-use Rattle.checks.proofs.Laws.{ahead-step, ahead-end, slots-chain, entries-chain, inside-chain}
+use Rattle.checks.proofs.Laws.{ahead-step, ahead-end, slots-chain, entries-chain}
 use Rattle.model.specs.declared.Entry.{Entry}
 use Rattle.directory.specs.Slots.{kindOf, entryOf, slotSays}
-use Rattle.directory.specs.declared.Slot.the-variants.{Inactive, Improper, Active}
+use Rattle.directory.specs.declared.Slot.the-variants.{Active}
 use Rattle.directory.specs.Search.{listed}
 use Rattle.directory.proofs.SlotLaws.{says-active, entry-kind, entry-used, entry-eof, entry-ftype}
-use Rattle.sound.specs.Work.{volumeEntry, standing, Stands, Describes, fileWork, chainWork, entryWork, listWork, rightOf, Opened, Leads}
+use Rattle.sound.specs.Work.{volumeEntry, standing, Stands, Describes, fileWork, chainWork, entryWork, listWork, Opened, Leads}
 use Rattle.sound.specs.declared.Own.{Own}
 use Rattle.sound.specs.declared.Own.the-variants.{Wrong, Whole, Inner}
 

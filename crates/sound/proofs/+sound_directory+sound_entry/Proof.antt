@@ -1,5 +1,7 @@
+-- `sound::sound_directory` and `sound::sound_entry`, which call each other, meet their contracts. An entry's measure is twice its levels, a directory's
+-- one more. Both loops keep what is still to be claimed: the entries ahead. Assumes nothing.
 use Prim.Native.Nat.{ℕ, _+_, _-_, _*_, _<_, _≤_}
-use mathlib.Core.Path.{_≡_, refl, sym, ap, _∙_}
+use mathlib.Core.Path.{_≡_, refl, ap, _∙_}
 use lib.ListN.{length}
 use borrow.Author.Needs.{needs}
 use borrow.Author.Tests.{not-true, not-false}

@@ -1,34 +1,27 @@
+-- `sound::directory_right` meets its contract. Each test that fails ends the conjunction. Assumes nothing.
 use borrow.Author.Tests.{eq-eqb, ne-eqb}
 use Rattle.model.specs.Bytes.{_and_}
 use borrow.Author.Needs.{needs}
 use Rattle.sound.proofs.directory_right.Statement.{statement}
 use Rattle.sound.proofs.directory_right.Tie as tie
-use Rattle.sound.proofs.directory_right.Reads as reads
-use Rattle.sound.proofs.directory_right.Lts as lts
 
--- src/lib.rt:177:9
 returns : tie.Need-returns
 unfolding _and_
 returns c = rw (ne-eqb _ _ (c .if1 .taken))
 
--- src/lib.rt:180:9
 returns-2 : tie.Need-returns-2
 unfolding _and_
 returns-2 c = rw (eq-eqb _ _ (c .before .before .if1 .left), eq-eqb _ _ (c .if2 .taken))
 
--- src/lib.rt:182:5
 cast-result : tie.Need-cast-result
 cast-result c = search needs
 
--- src/lib.rt:182:27
 cast-result-2 : tie.Need-cast-result-2
 cast-result-2 c = search needs
 
--- src/lib.rt:182:27
 mul-result : tie.Need-mul-result
 mul-result c = search needs
 
--- src/lib.rt:173:1
 returns-3 : tie.Need-returns-3
 unfolding _and_
 returns-3 c = rw (eq-eqb _ _ (c .before .before .before .before .if1 .left), ne-eqb _ _ (c .before .before .if2 .left))

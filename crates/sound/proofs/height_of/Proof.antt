@@ -1,3 +1,4 @@
+-- `sound::height_of` meets its contract. A kind's number is 1 at least. Assumes nothing.
 use mathlib.Core.Path.{ap, _∙_}
 use Prim.Native.Nat.{ℕ, _-_}
 use native.Mathlib.Omega.{arith}
@@ -8,28 +9,19 @@ use Rattle.sound.proofs.WorkLaws.{kind-least}
 use borrow.Author.Needs.{needs}
 use Rattle.sound.proofs.height_of.Statement.{statement}
 use Rattle.sound.proofs.height_of.Tie as tie
-use Rattle.sound.proofs.height_of.Reads as reads
-use Rattle.sound.proofs.height_of.Lts as lts
-use Rattle.directory.proofs.kind_for.Reads as kind-for-reads
-use Rattle.model.proofs.kind_number.Reads as kind-number-reads
 
--- src/lib.rt:61:9
 kind-for-requires : tie.Need-kind-for-requires
 kind-for-requires c κs = search needs
 
--- src/lib.rt:62:5
 kind-number-requires : tie.Need-kind-number-requires
 kind-number-requires c κs = search needs
 
--- src/lib.rt:62:5
 cast-result : tie.Need-cast-result
 cast-result c = search needs
 
--- src/lib.rt:62:5
 sub-result : tie.Need-sub-result
 sub-result c = omega (arith, kind-least (c .before .kind-for .result), c .kind-number .ensures)
 
--- src/lib.rt:58:1
 returns : tie.Need-returns
 unfolding heightFor
 returns c = ap (λ (k : ℕ). k - 1) (c .kind-number .ensures) ∙ ap (λ (k : Kind). kindNumber k - 1) (c .before .kind-for .ensures)

@@ -1,3 +1,4 @@
+-- `sound::home_of` meets its contract. Assumes nothing.
 use mathlib.Core.Path.{sym, ap, _∙_}
 use Prim.Native.Nat.{ℕ, _+_}
 use native.Mathlib.Omega.{arith}
@@ -8,28 +9,19 @@ use Rattle.sound.proofs.WorkLaws.{field-volume}
 use borrow.Author.Needs.{needs}
 use Rattle.sound.proofs.home_of.Statement.{statement}
 use Rattle.sound.proofs.home_of.Tie as tie
-use Rattle.sound.proofs.home_of.Reads as reads
-use Rattle.sound.proofs.home_of.Lts as lts
-use Rattle.checks.proofs.address.Reads as address-reads
-use Rattle.store.proofs.get_word.Reads as get-word-reads
 
--- src/lib.rt:156:9
 returns : tie.Need-returns
 returns c = field-volume (view (c .before .before .args .img .now)) (c .before .before .args .place) 0x25 2 (c .if1 .taken)
 
--- src/lib.rt:158:26
 address-requires : tie.Need-address-requires
 address-requires c κs = search needs
 
--- src/lib.rt:158:26
 add-get-word : tie.Need-add-get-word
 add-get-word c = let s = slot-in (c .before .before .before .args .n) (c .before .before .before .args .place) (omega arith) in omega arith
 
--- src/lib.rt:158:5
 get-word-requires : tie.Need-get-word-requires
 get-word-requires c κs = let s = slot-in (c .before .before .before .args .n) (c .before .before .before .args .place) (omega arith) in omega arith
 
--- src/lib.rt:151:1
 returns-2 : tie.Need-returns-2
 returns-2 c =
     let a = c .before .before .before .before .args in

@@ -1,3 +1,4 @@
+-- `sound::is_sound` meets its contract. The walk and the map decide soundness (claims, Agreement). Assumes nothing.
 use mathlib.Core.Path.{sym, _∙_}
 use borrow.Author.Tests.{not-true, not-false}
 use Rattle.model.specs.Bytes.{view}
@@ -8,41 +9,29 @@ use Rattle.sound.proofs.WorkLaws.{size-right, volume-header}
 use borrow.Author.Needs.{needs}
 use Rattle.sound.proofs.is_sound.Statement.{statement}
 use Rattle.sound.proofs.is_sound.Tie as tie
-use Rattle.sound.proofs.is_sound.Reads as reads
-use Rattle.sound.proofs.is_sound.Lts as lts
-use Rattle.checks.proofs.is_prodos.Reads as is-prodos-reads
-use Rattle.sound.proofs.walk_fits.Reads as walk-fits-reads
-use Rattle.store.proofs.get_word.Reads as get-word-reads
 
--- src/lib.rt:309:9
 is-prodos-requires : tie.Need-is-prodos-requires
 is-prodos-requires c κs = search needs
 
--- src/lib.rt:310:9
 returns : tie.Need-returns
 returns c =
     let a = c .before .before .before .args in
     sym (not-prodos (a .n) (view (a .img .now)) (sym (c .before .is-prodos .ensures) ∙ not-true _ (c .if1 .taken)))
 
--- src/lib.rt:312:29
 mul-get-word : tie.Need-mul-get-word
 mul-get-word c = search needs
 
--- src/lib.rt:312:29
 add-get-word : tie.Need-add-get-word
 add-get-word c = search needs
 
--- src/lib.rt:312:8
 get-word-requires : tie.Need-get-word-requires
 get-word-requires c κs = search needs
 
--- src/lib.rt:313:9
 returns-2 : tie.Need-returns-2
 returns-2 c =
     let a = c .before .before .before .before .before .args in
     sym (not-placed (a .n) (view (a .img .now)) (λ e. c .if2 .taken (c .before .get-word .ensures .0 ∙ e)))
 
--- src/lib.rt:316:5
 walk-fits-requires : tie.Need-walk-fits-requires
 walk-fits-requires c κs =
     let a = c .before .before .before .before .before .before .args in
@@ -50,7 +39,6 @@ walk-fits-requires c κs =
     let prodos = sym (c .before .before .before .before .is-prodos .ensures) ∙ not-false _ (c .before .before .before .if1 .left) in
     (p .0, (p .2, p .1, volume-header (a .n) (view (a .img .now)) prodos), blank 8192)
 
--- src/lib.rt:305:1
 returns-3 : tie.Need-returns-3
 returns-3 c =
     let a = c .before .before .before .before .before .before .before .args in

@@ -1,3 +1,4 @@
+-- `sound::open_directory` meets its contract. A chain that was claimed lies on the volume, so its blocks can be read. Assumes nothing.
 use mathlib.Core.Path.{_≡_, sym, _∙_}
 use Prim.Native.Nat.{ℕ}
 use native.Mathlib.Omega.{arith}
@@ -9,21 +10,13 @@ use Rattle.sound.proofs.WorkLaws.{chain-refused, chain-claimed, top-wro
 use borrow.Author.Needs.{needs}
 use Rattle.sound.proofs.open_directory.Statement.{statement}
 use Rattle.sound.proofs.open_directory.Tie as tie
-use Rattle.sound.proofs.open_directory.Reads as reads
-use Rattle.sound.proofs.open_directory.Lts as lts
-use Rattle.marks.proofs.claim_chain.Reads as claim-chain-reads
-use Rattle.sound.proofs.names_right.Reads as names-right-reads
-use Rattle.sound.proofs.top_right.Reads as top-right-reads
 
--- src/lib.rt:112:9
 claim-chain-requires : tie.Need-claim-chain-requires
 claim-chain-requires c κs = search needs
 
--- src/lib.rt:113:9
 same-length : tie.Need-same-length
 same-length c = search needs
 
--- src/lib.rt:113:9
 returns : tie.Need-returns
 returns c =
     let a = c .before .before .before .before .before .before .before .args in
@@ -32,7 +25,6 @@ returns c =
       (λ z. let o : _≡_ {A = ℕ} 0 1 = cc in absurd (omega arith)),
     )
 
--- src/lib.rt:115:9
 top-right-requires : tie.Need-top-right-requires
 top-right-requires c κs =
     let a = c .before .before .before .before .before .before .before .args in
@@ -42,11 +34,9 @@ top-right-requires c κs =
     let inside = chain-claimed (a .n) v (a .place) (a .key) (a .used) (marks (a .seen .now)) (marks (k .last .1 .0)) (k .result) (k .ensures) (not-false _ (c .if1 .left)) in
     (p .0 .0, p .0 .1, p .1, inside-chain v (a .n) (a .key) (a .used) (p .2) inside .0, p .4)
 
--- src/lib.rt:116:9
 same-length-2 : tie.Need-same-length-2
 same-length-2 c = search needs
 
--- src/lib.rt:116:9
 returns-2 : tie.Need-returns-2
 returns-2 c =
     let a = c .before .before .before .before .before .before .before .before .before .args in
@@ -56,7 +46,6 @@ returns-2 c =
       (λ z. let o : _≡_ {A = ℕ} 0 1 = cc in absurd (omega arith)),
     )
 
--- src/lib.rt:118:5
 names-right-requires : tie.Need-names-right-requires
 names-right-requires c κs =
     let a = c .before .before .before .before .before .before .before .before .before .args in
@@ -66,11 +55,9 @@ names-right-requires c κs =
     let inside = chain-claimed (a .n) v (a .place) (a .key) (a .used) (marks (a .seen .now)) (marks (k .last .1 .0)) (k .result) (k .ensures) (not-false _ (c .before .before .if1 .left)) in
     ((p .0 .1, inside-chain v (a .n) (a .key) (a .used) (p .2) inside .0, p .3), inside)
 
--- src/lib.rt:107:1
 same-length-3 : tie.Need-same-length-3
 same-length-3 c = search needs
 
--- src/lib.rt:107:1
 returns-3 : tie.Need-returns-3
 returns-3 c =
     let a = c .before .before .before .before .before .before .before .before .before .before .args in

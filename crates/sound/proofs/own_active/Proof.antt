@@ -1,3 +1,4 @@
+-- `sound::own_active` meets its contract. The kind says the sort, so each arm has its own claims. Assumes nothing.
 use mathlib.Core.Path.{sym, ap, _∙_}
 use mathlib.Core.List.{List}
 use native.Mathlib.Omega.{arith}
@@ -9,20 +10,13 @@ use Rattle.sound.proofs.WorkLaws.{what-stands, a-directory, a-seedling,
 use borrow.Author.Needs.{needs}
 use Rattle.sound.proofs.own_active.Statement.{statement}
 use Rattle.sound.proofs.own_active.Tie as tie
-use Rattle.sound.proofs.own_active.Reads as reads
-use Rattle.sound.proofs.own_active.Lts as lts
-use Rattle.sound.proofs.own_directory.Reads as own-directory-reads
-use Rattle.sound.proofs.own_file.Reads as own-file-reads
 
--- src/lib.rt:232:25
 enum-known-kind : tie.Need-enum-known-kind
 enum-known-kind c = search needs
 
--- src/lib.rt:232:82
 cast-own-directory : tie.Need-cast-own-directory
 cast-own-directory c = search needs
 
--- src/lib.rt:232:33
 own-directory-requires : tie.Need-own-directory-requires
 own-directory-requires c κs =
     let a = c .before .before .before .before .before .before .args in
@@ -31,15 +25,12 @@ own-directory-requires c κs =
     let d = a-directory v (a .place) _ (a .entry) (p .2) (c .before .before .kind .given .1) in
     ((p .0, p .1, d .0), (d .1, what-stands v (a .place) 0 (a .entry) (p .2)))
 
--- src/lib.rt:233:24
 enum-known-kind-2 : tie.Need-enum-known-kind-2
 enum-known-kind-2 c = search needs
 
--- src/lib.rt:233:71
 cast-own-file : tie.Need-cast-own-file
 cast-own-file c = search needs
 
--- src/lib.rt:233:32
 own-file-requires : tie.Need-own-file-requires
 own-file-requires c κs =
     let a = c .before .before .before .before .before .before .args in
@@ -48,15 +39,12 @@ own-file-requires c κs =
     let d = a-seedling v (a .place) _ (a .entry) (p .2) (c .before .before .kind2 .given .1) in
     ((p .0, p .1, omega arith, d .0), (d .1, what-stands v (a .place) 0 (a .entry) (p .2)))
 
--- src/lib.rt:234:23
 enum-known-kind-3 : tie.Need-enum-known-kind-3
 enum-known-kind-3 c = search needs
 
--- src/lib.rt:234:70
 cast-own-file-2 : tie.Need-cast-own-file-2
 cast-own-file-2 c = search needs
 
--- src/lib.rt:234:31
 own-file-requires-2 : tie.Need-own-file-requires-2
 own-file-requires-2 c κs =
     let a = c .before .before .before .before .before .before .args in
@@ -65,15 +53,12 @@ own-file-requires-2 c κs =
     let d = a-sapling v (a .place) _ (a .entry) (p .2) (c .before .before .kind3 .given .1) in
     ((p .0, p .1, omega arith, d .0), (d .1, what-stands v (a .place) 0 (a .entry) (p .2)))
 
--- src/lib.rt:235:20
 enum-known-kind-4 : tie.Need-enum-known-kind-4
 enum-known-kind-4 c = search needs
 
--- src/lib.rt:235:67
 cast-own-file-3 : tie.Need-cast-own-file-3
 cast-own-file-3 c = search needs
 
--- src/lib.rt:235:28
 own-file-requires-3 : tie.Need-own-file-requires-3
 own-file-requires-3 c κs =
     let a = c .before .before .before .before .before .before .args in
@@ -82,11 +67,9 @@ own-file-requires-3 c κs =
     let d = a-tree v (a .place) _ (a .entry) (p .2) (c .before .before .kind4 .given .1) in
     ((p .0, p .1, omega arith, d .0), (d .1, what-stands v (a .place) 0 (a .entry) (p .2)))
 
--- src/lib.rt:225:1
 same-length : tie.Need-same-length
 same-length c = search needs
 
--- src/lib.rt:225:1
 returns : tie.Need-returns
 returns c =
     let a = c .before .before .before .before .before .before .before .before .before .args in
@@ -95,11 +78,9 @@ returns c =
     let k = c .before .before .own-directory in
     (k .ensures .0 ∙ ap (λ (t : Sort). claim (a .n) (claimsOf t v (a .levels) (a .home) (a .place)) (marks (a .seen .now))) (sym (d .0)), k .ensures .1)
 
--- src/lib.rt:225:1
 same-length-2 : tie.Need-same-length-2
 same-length-2 c = search needs
 
--- src/lib.rt:225:1
 returns-2 : tie.Need-returns-2
 returns-2 c =
     let a = c .before .before .before .before .before .before .before .before .before .args in
@@ -110,11 +91,9 @@ returns-2 c =
       leads-any (a .n) v (a .levels) (a .place) (k .result) (k .ensures .1),
     )
 
--- src/lib.rt:225:1
 same-length-3 : tie.Need-same-length-3
 same-length-3 c = search needs
 
--- src/lib.rt:225:1
 returns-3 : tie.Need-returns-3
 returns-3 c =
     let a = c .before .before .before .before .before .before .before .before .before .args in
@@ -125,11 +104,9 @@ returns-3 c =
       leads-any (a .n) v (a .levels) (a .place) (k .result) (k .ensures .1),
     )
 
--- src/lib.rt:225:1
 same-length-4 : tie.Need-same-length-4
 same-length-4 c = search needs
 
--- src/lib.rt:225:1
 returns-4 : tie.Need-returns-4
 returns-4 c =
     let a = c .before .before .before .before .before .before .before .before .before .args in

@@ -1,3 +1,4 @@
+-- `sound::own_claims` meets its contract. Assumes nothing.
 use Prim.{tt}
 use mathlib.Core.Path.{sym, _∙_}
 use Rattle.model.specs.Bytes.{view}
@@ -9,34 +10,24 @@ use Rattle.sound.proofs.WorkLaws.{idle, no-kind}
 use borrow.Author.Needs.{needs}
 use Rattle.sound.proofs.own_claims.Statement.{statement}
 use Rattle.sound.proofs.own_claims.Tie as tie
-use Rattle.sound.proofs.own_claims.Reads as reads
-use Rattle.sound.proofs.own_claims.Lts as lts
-use Rattle.sound.proofs.own_active.Reads as own-active-reads
-use Rattle.sound.proofs.stands_at.Reads as stands-at-reads
 
--- src/lib.rt:245:11
 stands-at-requires : tie.Need-stands-at-requires
 stands-at-requires c κs = search needs
 
--- src/lib.rt:246:27
 enum-told : tie.Need-enum-told
 enum-told c = search needs
 
--- src/lib.rt:247:27
 enum-told-2 : tie.Need-enum-told-2
 enum-told-2 c = search needs
 
--- src/lib.rt:248:22
 enum-known-entry : tie.Need-enum-known-entry
 enum-known-entry c = search needs
 
--- src/lib.rt:248:32
 own-active-requires : tie.Need-own-active-requires
 own-active-requires c κs =
     let p = c .before .before .before .before .before .before .before .pre in
     (p .0, p .1, sym (c .before .before .before .before .stands-at .ensures) ∙ c .before .before .entry .given .1)
 
--- src/lib.rt:240:1
 returns : tie.Need-returns
 returns c =
     let a = c .before .before .before .before .before .args in
@@ -44,7 +35,6 @@ returns c =
     idle (a .n) v (a .levels) (a .home) (a .place) (marks (a .seen .now))
     (says-inactive (sort v (a .place)) (standing v (a .place)) (sym (c .before .before .stands-at .ensures) ∙ c .enum-told .given .1))
 
--- src/lib.rt:240:1
 returns-2 : tie.Need-returns-2
 returns-2 c =
     let a = c .before .before .before .before .before .args in
@@ -54,11 +44,9 @@ returns-2 c =
       tt,
     )
 
--- src/lib.rt:240:1
 same-length : tie.Need-same-length
 same-length c = search needs
 
--- src/lib.rt:240:1
 returns-3 : tie.Need-returns-3
 returns-3 c = search needs
 

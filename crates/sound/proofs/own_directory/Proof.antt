@@ -1,3 +1,4 @@
+-- `sound::own_directory` meets its contract. The tests come in the order of the claims. Assumes nothing.
 use Prim.{tt}
 use mathlib.Core.Path.{sym, ap, _∙_}
 use Prim.Native.Nat.{ℕ}
@@ -11,34 +12,24 @@ use Rattle.sound.proofs.WorkLaws.{when-taken, when-refused, no-level, m
 use borrow.Author.Needs.{needs}
 use Rattle.sound.proofs.own_directory.Statement.{statement}
 use Rattle.sound.proofs.own_directory.Tie as tie
-use Rattle.sound.proofs.own_directory.Reads as reads
-use Rattle.sound.proofs.own_directory.Lts as lts
-use Rattle.sound.proofs.directory_right.Reads as directory-right-reads
-use Rattle.sound.proofs.entry_right.Reads as entry-right-reads
-use Rattle.sound.proofs.open_directory.Reads as open-directory-reads
 
--- src/lib.rt:193:9
 returns : tie.Need-returns
 returns c =
     let a = c .before .before .before .args in
     (no-level (a .n) (view (a .img .now)) (a .levels) (a .home) (a .place) (marks (a .seen .now)) (c .before .before .before .pre .0 .2) (c .if1 .taken), tt)
 
--- src/lib.rt:195:9
 entry-right-requires : tie.Need-entry-right-requires
 entry-right-requires c κs = search needs
 
--- src/lib.rt:196:9
 returns-2 : tie.Need-returns-2
 returns-2 c =
     let a = c .before .before .before .before .before .args in
     let e = c .before .entry-right in
     (misnamed (a .n) (view (a .img .now)) (a .levels) (a .home) (a .place) (marks (a .seen .now)) (c .before .before .before .before .before .pre .0 .2) (c .before .before .if1 .left) (e .result) (e .ensures) (not-true _ (c .if2 .taken)), tt)
 
--- src/lib.rt:198:9
 directory-right-requires : tie.Need-directory-right-requires
 directory-right-requires c κs = search needs
 
--- src/lib.rt:199:9
 returns-3 : tie.Need-returns-3
 returns-3 c =
     let a = c .before .before .before .before .before .before .before .args in
@@ -50,11 +41,9 @@ returns-3 c =
       tt,
     )
 
--- src/lib.rt:201:16
 cast-used : tie.Need-cast-used
 cast-used c = search needs
 
--- src/lib.rt:202:9
 open-directory-requires : tie.Need-open-directory-requires
 open-directory-requires c κs =
     let a = c .before .before .before .before .before .before .before .before .before .args in
@@ -63,11 +52,9 @@ open-directory-requires c κs =
     let some = fields-some (a .entry .ftype) (a .entry .used) _ (sym (f .ensures) ∙ not-false _ (c .before .before .if3 .left)) in
     (p .0 .0, p .0 .1, some, omega arith, p .1 .0)
 
--- src/lib.rt:203:9
 same-length : tie.Need-same-length
 same-length c = search needs
 
--- src/lib.rt:203:9
 returns-4 : tie.Need-returns-4
 returns-4 c =
     let a = c .before .before .before .before .before .before .before .before .before .before .before .before .before .args in
@@ -79,11 +66,9 @@ returns-4 c =
     (a .entry) (p .1 .1) (not-false _ (c .before .before .before .before .before .before .before .before .if2 .left)) (f .result) (f .ensures) (not-false _ (c .before .before .before .before .before .before .if3 .left)) (a .key) (p .1 .0) in
     (when-refused (marks (k .last .1 .0)) (k .result) _ (k .ensures .0 ∙ left) (not-true _ (c .if4 .taken)), tt)
 
--- src/lib.rt:186:1
 same-length-2 : tie.Need-same-length-2
 same-length-2 c = search needs
 
--- src/lib.rt:186:1
 returns-5 : tie.Need-returns-5
 returns-5 c =
     let a = c .before .before .before .before .before .before .before .before .before .before .before .before .before .args in

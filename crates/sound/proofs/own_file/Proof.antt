@@ -1,3 +1,4 @@
+-- `sound::own_file` meets its contract. Assumes nothing.
 use Prim.{tt}
 use mathlib.Core.Path.{_∙_}
 use borrow.Author.Tests.{not-true, not-false}
@@ -7,31 +8,22 @@ use Rattle.sound.proofs.WorkLaws.{when-taken, when-refused, file-misnam
 use borrow.Author.Needs.{needs}
 use Rattle.sound.proofs.own_file.Statement.{statement}
 use Rattle.sound.proofs.own_file.Tie as tie
-use Rattle.sound.proofs.own_file.Reads as reads
-use Rattle.sound.proofs.own_file.Lts as lts
-use Rattle.sound.proofs.entry_right.Reads as entry-right-reads
-use Rattle.sound.proofs.sound_file.Reads as sound-file-reads
 
--- src/lib.rt:215:9
 entry-right-requires : tie.Need-entry-right-requires
 entry-right-requires c κs = search needs
 
--- src/lib.rt:216:9
 returns : tie.Need-returns
 returns c =
     let a = c .before .before .before .before .args in
     let e = c .before .entry-right in
     (file-misnamed (a .n) (view (a .img .now)) (a .height) 0 (a .home) (a .place) (marks (a .seen .now)) (c .before .before .before .before .pre .0 .3) (e .result) (e .ensures) (not-true _ (c .if1 .taken)), tt)
 
--- src/lib.rt:218:9
 sound-file-requires : tie.Need-sound-file-requires
 sound-file-requires c κs = search needs
 
--- src/lib.rt:219:9
 same-length : tie.Need-same-length
 same-length c = search needs
 
--- src/lib.rt:219:9
 returns-2 : tie.Need-returns-2
 returns-2 c =
     let a = c .before .before .before .before .before .before .before .before .before .args in
@@ -41,11 +33,9 @@ returns-2 c =
     let left = file-left (a .n) (view (a .img .now)) (a .height) 0 (a .home) (a .place) (marks (a .seen .now)) (p .0 .3) (e .result) (e .ensures) (a .key) (a .entry) (p .1) (not-false _ (c .before .before .before .before .before .if1 .left)) in
     (when-refused (marks (k .last .1 .0)) (k .result) _ (k .ensures ∙ left) (not-true _ (c .if2 .taken)), tt)
 
--- src/lib.rt:209:1
 same-length-2 : tie.Need-same-length-2
 same-length-2 c = search needs
 
--- src/lib.rt:209:1
 returns-3 : tie.Need-returns-3
 returns-3 c =
     let a = c .before .before .before .before .before .before .before .before .before .args in

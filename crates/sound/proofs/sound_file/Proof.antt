@@ -1,3 +1,4 @@
+-- `sound::sound_file` meets its contract. A test that holds leaves the claims after it. Assumes nothing.
 use mathlib.Core.Path.{sym, ap, _∙_}
 use Prim.Native.Nat.{ℕ}
 use Rattle.model.specs.Bytes.{view}
@@ -7,24 +8,16 @@ use Rattle.sound.proofs.WorkLaws.{file-type, file-height, file-refused,
 use borrow.Author.Needs.{needs}
 use Rattle.sound.proofs.sound_file.Statement.{statement}
 use Rattle.sound.proofs.sound_file.Tie as tie
-use Rattle.sound.proofs.sound_file.Reads as reads
-use Rattle.sound.proofs.sound_file.Lts as lts
-use Rattle.marks.proofs.claim_tree.Reads as claim-tree-reads
-use Rattle.sound.proofs.file_blocks.Reads as file-blocks-reads
-use Rattle.sound.proofs.height_of.Reads as height-of-reads
 
--- src/lib.rt:71:9
 returns : tie.Need-returns
 returns c =
     let a = c .before .before .before .before .args in
     let e = a .entry in
     file-type (a .n) (view (a .img .now)) (a .height) (e .ftype) (e .eof) (a .key) (e .used) (marks (a .seen .now)) (c .if1 .taken)
 
--- src/lib.rt:74:18
 height-of-requires : tie.Need-height-of-requires
 height-of-requires c κs = search needs
 
--- src/lib.rt:75:9
 returns-2 : tie.Need-returns-2
 returns-2 c =
     let a = c .before .before .before .before .before .before .args in
@@ -32,27 +25,21 @@ returns-2 c =
     file-height (a .n) (view (a .img .now)) (a .height) (e .ftype) (e .eof) (a .key) (e .used) (marks (a .seen .now)) (c .before .before .if1 .left)
     (λ q. c .if2 .taken (q ∙ sym (c .before .height-of .ensures)))
 
--- src/lib.rt:77:72
 file-blocks-requires : tie.Need-file-blocks-requires
 file-blocks-requires c κs = search needs
 
--- src/lib.rt:77:30
 claim-tree-requires : tie.Need-claim-tree-requires
 claim-tree-requires c κs = search needs
 
--- src/lib.rt:77:21
 enum-known-count : tie.Need-enum-known-count
 enum-known-count c = search needs
 
--- src/lib.rt:78:9
 enum-told : tie.Need-enum-told
 enum-told c = search needs
 
--- src/lib.rt:78:9
 same-length : tie.Need-same-length
 same-length c = search needs
 
--- src/lib.rt:78:9
 returns-3 : tie.Need-returns-3
 returns-3 c =
     let a = c .before .before .before .before .before .before .before .before .before .before .before .before .before .args in
@@ -64,15 +51,12 @@ returns-3 c =
     file-refused (a .n) v (a .height) (e .ftype) (e .eof) (a .key) (e .used) s (marks (k .last .1 .0)) (tookAll (k .result)) answer (c .before .before .before .before .before .before .before .before .before .if1 .left)
     (c .before .before .before .before .before .before .before .if2 .left ∙ c .before .before .before .before .before .before .before .before .height-of .ensures) (ap tookAll (c .enum-told .given .1))
 
--- src/lib.rt:80:5
 cast-result : tie.Need-cast-result
 cast-result c = search needs
 
--- src/lib.rt:66:1
 same-length-2 : tie.Need-same-length-2
 same-length-2 c = search needs
 
--- src/lib.rt:66:1
 returns-4 : tie.Need-returns-4
 returns-4 c =
     let a = c .before .before .before .before .before .before .before .before .before .before .before .before .before .before .before .args in

@@ -1,3 +1,4 @@
+-- `sound::stands_at` meets its contract. The 39 bytes that are lent say what stands in the image. Assumes nothing.
 use mathlib.Core.Path.{sym, ap, _∙_}
 use Prim.Native.Nat.{_+_, _-_}
 use native.Mathlib.Omega.{arith}
@@ -10,47 +11,33 @@ use Rattle.sound.proofs.WorkLaws.{stands-volume, standing-entry}
 use borrow.Author.Needs.{needs}
 use Rattle.sound.proofs.stands_at.Statement.{statement}
 use Rattle.sound.proofs.stands_at.Tie as tie
-use Rattle.sound.proofs.stands_at.Reads as reads
-use Rattle.sound.proofs.stands_at.Lts as lts
-use Rattle.checks.proofs.address.Reads as address-reads
-use Rattle.directory.proofs.decode.Reads as decode-reads
-use Rattle.sound.proofs.volume_entry.Reads as volume-entry-reads
 
--- src/lib.rt:143:29
 volume-entry-requires : tie.Need-volume-entry-requires
 volume-entry-requires c κs = search needs
 
--- src/lib.rt:143:9
 returns : tie.Need-returns
 returns c =
     let a = c .before .before .before .args in
     stands-volume (view (a .img .now)) (a .place) (c .volume-entry .result) (c .before .if1 .taken) (c .volume-entry .ensures)
 
--- src/lib.rt:145:9
 address-requires : tie.Need-address-requires
 address-requires c κs = search needs
 
--- src/lib.rt:146:15
 add-end : tie.Need-add-end
 add-end c = let s = slot-in (c .before .before .before .args .n) (c .before .before .before .args .place) (omega arith) in omega arith
 
--- src/lib.rt:147:23
 sub-decode : tie.Need-sub-decode
 sub-decode c = search needs
 
--- src/lib.rt:147:23
 part-decode-start : tie.Need-part-decode-start
 part-decode-start c = search needs
 
--- src/lib.rt:147:23
 part-decode-end : tie.Need-part-decode-end
 part-decode-end c = let s = slot-in (c .before .before .before .args .n) (c .before .before .before .args .place) (omega arith) in omega arith
 
--- src/lib.rt:147:5
 decode-requires : tie.Need-decode-requires
 decode-requires c κs = search needs
 
--- src/lib.rt:138:1
 returns-2 : tie.Need-returns-2
 returns-2 c =
     let a = c .before .before .before .before .before .args in

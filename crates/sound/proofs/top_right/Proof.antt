@@ -1,3 +1,4 @@
+-- `sound::top_right` meets its contract. The volume's place has the volume's faults, any other a header's. Assumes nothing.
 use mathlib.Core.Path.{sym, ap, _∙_}
 use Prim.Native.Nat.{ℕ}
 use native.Mathlib.Omega.{arith}
@@ -8,26 +9,18 @@ use Rattle.sound.proofs.WorkLaws.{top-volume, top-header}
 use borrow.Author.Needs.{needs}
 use Rattle.sound.proofs.top_right.Statement.{statement}
 use Rattle.sound.proofs.top_right.Tie as tie
-use Rattle.sound.proofs.top_right.Reads as reads
-use Rattle.sound.proofs.top_right.Lts as lts
-use Rattle.checks.proofs.header_right.Reads as header-right-reads
-use Rattle.checks.proofs.volume_right.Reads as volume-right-reads
 
--- src/lib.rt:89:9
 volume-right-requires : tie.Need-volume-right-requires
 volume-right-requires c κs = search needs
 
--- src/lib.rt:89:9
 returns : tie.Need-returns
 returns c =
     let a = c .before .before .before .args in
     c .volume-right .ensures ∙ ap (λ (k : ℕ). eqb k 0) (sym (top-volume (view (a .img .now)) (a .place) (c .before .if1 .taken)))
 
--- src/lib.rt:91:5
 header-right-requires : tie.Need-header-right-requires
 header-right-requires c κs = let s = slot-in (c .before .before .args .n) (c .before .before .args .place) (omega arith) in omega arith
 
--- src/lib.rt:84:1
 returns-2 : tie.Need-returns-2
 returns-2 c =
     let a = c .before .before .before .args in

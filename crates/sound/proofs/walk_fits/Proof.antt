@@ -1,3 +1,4 @@
+-- `sound::walk_fits` meets its contract. The walk's answer decides what the claims of the volume come to. Assumes nothing.
 use mathlib.Core.Path.{sym, ap, _∙_}
 use mathlib.Core.Bool.{Bool}
 use native.Mathlib.Omega.{arith}
@@ -12,22 +13,13 @@ use Rattle.sound.proofs.WorkLaws.{fits-not, fits-map}
 use borrow.Author.Needs.{needs}
 use Rattle.sound.proofs.walk_fits.Statement.{statement}
 use Rattle.sound.proofs.walk_fits.Tie as tie
-use Rattle.sound.proofs.walk_fits.Reads as reads
-use Rattle.sound.proofs.walk_fits.Lts as lts
-use Rattle.map.proofs.rest_clear.Reads as rest-clear-reads
-use Rattle.marks.proofs.map_right.Reads as map-right-reads
-use Rattle.marks.proofs.reserve.Reads as reserve-reads
-use Rattle.sound.proofs.sound_entry.Reads as sound-entry-reads
 
--- src/lib.rt:294:5
 reserve-requires : tie.Need-reserve-requires
 reserve-requires c κs = search needs
 
--- src/lib.rt:295:9
 sound-entry-requires : tie.Need-sound-entry-requires
 sound-entry-requires c κs = search needs
 
--- src/lib.rt:296:9
 returns : tie.Need-returns
 returns c =
     let a = c .before .before .before .before .before .before .args in
@@ -36,11 +28,9 @@ returns c =
     let answer = e .ensures ∙ ap (λ (s : Seen). claim (a .n) (entryWork v 32 2 volume) s) (c .before .before .before .reserve .ensures) in
     fits-not (a .n) v (marks (e .last .1 .0)) (e .result) answer (restClear mapPlace v (a .n)) (not-true _ (c .if1 .taken))
 
--- src/lib.rt:298:9
 map-right-requires : tie.Need-map-right-requires
 map-right-requires c κs = search needs
 
--- src/lib.rt:299:9
 returns-2 : tie.Need-returns-2
 unfolding _and_
 returns-2 c =
@@ -52,12 +42,10 @@ returns-2 c =
     ap (λ (t : Bool). t and restClear mapPlace v (a .n)) (sym (not-true _ (c .if2 .taken)) ∙ m .ensures)
     ∙ fits-map (a .n) v (marks (e .last .1 .0)) (e .result) answer (restClear mapPlace v (a .n)) (not-false _ (c .before .before .before .before .if1 .left))
 
--- src/lib.rt:301:5
 rest-clear-requires : tie.Need-rest-clear-requires
 unfolding mapBlocks
 rest-clear-requires c κs = omega arith
 
--- src/lib.rt:290:1
 returns-3 : tie.Need-returns-3
 unfolding _and_
 returns-3 c =
