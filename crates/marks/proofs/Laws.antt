@@ -1,7 +1,7 @@
 -- Marks set in a slice, and what a step of the code leaves to claim, to count and to compare. Assumes nothing.
 use mathlib.Core.Path.{_≡_, refl, sym, ap, _∙_, fun-ext}
 use mathlib.Core.List.{List, [], _∷_, _++_}
-use mathlib.Core.Bool.{Bool, true, false, not, Bool·beq}
+use mathlib.Core.Bool.{Bool, true, false, not, Bool·beq, false≢true}
 use mathlib.Core.Option.{Option, none, some}
 use Prim.Native.Nat.{ℕ, zero, suc, _+_, _-_, _*_, _/_, _%_, _≤_, _<_}
 use native.Mathlib.Nat.{not-suc-le-zero}
@@ -36,11 +36,11 @@ module _ (l l′ : List ℕ) (b : ℕ) (octets : Octets (view l)) (gave : view l
   mark-at x true p =
       let q : b ≡ x = sym (eqb-true x b p) in
       let z : free 0 (view l) x + is b x * (1 - free 0 (view l) b) ≡ 1 =
-          rw (is-yes b x q) (omega (arith, free-most 0 (view l) b, ap (free 0 (view l)) q)) in
+      rw (is-yes b x q) (omega (arith, free-most 0 (view l) b, ap (free 0 (view l)) q)) in
       eq-eqb _ 1 z
   mark-at x false p =
       let z : free 0 (view l) x + is b x * (1 - free 0 (view l) b) ≡ free 0 (view l) x =
-          rw (is-no b x (λ q. eqb-false x b p (sym q))) (omega arith) in
+      rw (is-no b x (λ q. eqb-false x b p (sym q))) (omega arith) in
       ap (λ (k : ℕ). eqb k 1) z ∙ sym (marks-free l x)
 
   pub marked : marks l′ ≡ with b (marks l)
@@ -285,14 +285,13 @@ module _ (v : Bytes) (s : Seen) (p q : Bool) where
       → mapRight v s (k - 1) ≡ mapRight v s k
   unfolding mapRight _and_
   map-on zero x y h e = absurd (not-suc-le-zero h)
-  map-on (suc k) x y h e =
-      rw sub-one (rw (← rw sub-one at x, ← rw sub-one at y) (go p q e))
+  map-on (suc k) x y h e = rw sub-one (rw (← rw sub-one at x, ← rw sub-one at y) (go p q e))
     where
       go : (p q : Bool) → Bool·beq p q ≡ false → mapRight v s k ≡ (Bool·beq p (not q) and mapRight v s k)
-      go true true e = let o : _≡_ {A = ℕ} 0 1 = cc in absurd (omega arith)
+      go true true e = absurd (false≢true (sym e))
       go true false e = refl
       go false true e = refl
-      go false false e = let o : _≡_ {A = ℕ} 0 1 = cc in absurd (omega arith)
+      go false false e = absurd (false≢true (sym e))
 
   pub map-off : (k : ℕ) → p ≡ eqb (free 6 v (k - 1)) 1 → q ≡ s (k - 1) → 0 < k → Bool·beq p q ≡ true → false ≡ mapRight v s k
   unfolding mapRight _and_
@@ -301,8 +300,8 @@ module _ (v : Bytes) (s : Seen) (p q : Bool) where
     where
       go : (p q : Bool) → Bool·beq p q ≡ true → false ≡ (Bool·beq p (not q) and mapRight v s k)
       go true true e = refl
-      go true false e = let o : _≡_ {A = ℕ} 0 1 = cc in absurd (omega arith)
-      go false true e = let o : _≡_ {A = ℕ} 0 1 = cc in absurd (omega arith)
+      go true false e = absurd (false≢true e)
+      go false true e = absurd (false≢true e)
       go false false e = refl
 
 pub map-none : (v : Bytes) (s : Seen) (k : ℕ) → k ≤ 0 → true ≡ mapRight v s k

@@ -50,7 +50,7 @@ loop-again c =
     let f = c .before .before .is-free in
     let m = c .before .is-free2 in
     let on = map-on (view (a .img .now)) (marks (a .seen .now)) (f .result) (m .result) (l .left) (f .ensures)
-        (m .ensures ∙ sym (marks-free (a .seen .now) (l .left - 1))) (c .before .before .before .loop-test .taken) (c .if1 .left) in
+    (m .ensures ∙ sym (marks-free (a .seen .now) (l .left - 1))) (c .before .before .before .loop-test .taken) (c .if1 .left) in
     (omega arith, on ∙ l .inv .1)
 
 returns-2 : tie.Need-returns-2 Inv-loop μ-loop
