@@ -1,28 +1,25 @@
 -- Laws for code that claims step by step: what is left after a part, and what a loop's next step claims. Assumes nothing.
-use mathlib.Core.Path.{_≡_, refl, sym, ap, _∙_, fun-ext}
-use mathlib.Core.List.{List, [], _∷_, _++_, append-assoc, map-append}
-use mathlib.Core.Bool.{Bool, true, false, not}
+use mathlib.Core.Path.{_≡_, refl, sym, ap, _∙_}
+use mathlib.Core.List.{List, [], _∷_, _++_, map-append}
+use mathlib.Core.Bool.{Bool, true, false, not, true≢false}
 use mathlib.Core.Option.{Option, none, some}
-use Prim.Native.Nat.{ℕ, zero, suc, _-_, _≤_, _<_}
+use Prim.Native.Nat.{ℕ, zero, suc, _+_, _-_, _*_, _≤_, _<_}
 use native.Mathlib.Nat.{not-suc-le-zero}
 use native.Mathlib.Numerals.{sub-one}
-use borrow.Author.Tests.{lt-ltb, le-ltb}
+use borrow.Author.Tests.{lt-ltb, le-ltb, eq-eqb, ne-eqb, not-true}
 use lib.Dec.{eqb, ltb}
 use Rattle.model.specs.Bytes.{Bytes, gather, _and_}
 use Rattle.model.specs.Directory.{previous, next, kids}
-use Rattle.model.specs.Walk.{walk, Visit, visit}
-use Rattle.claims.specs.Claims.{Claim, block, must, Seen, with, claim, outcome, chainClaims, claimsAt, claims}
+use Rattle.model.specs.File.{pointer}
+use Rattle.model.specs.Walk.{walk, visit}
+use Rattle.claims.specs.Claims.{Claim, block, must, Seen, with, claim, outcome, chainClaims, limbClaims, claimsAt, claims}
 use Rattle.claims.proofs.SumLaws.{gather-append}
+use Rattle.claims.proofs.TestLaws.{and-false}
 
 -- what follows a first outcome
 abbrev pub then : Option Seen → (Seen → Option Seen) → Option Seen
 then none k = none
 then (some s) k = k s
-
-and-off : (t : Bool) → (t and false) ≡ false
-unfolding _and_
-and-off true = refl
-and-off false = refl
 
 module _ (n : ℕ) where
   pub claim-append : (xs ys : List Claim) (s : Seen) → claim n (xs ++ ys) s ≡ then (claim n xs s) (claim n ys)
@@ -70,8 +67,7 @@ module _ (n : ℕ) where
     block-outside b h = block-test b false (rw (le-ltb b n h))
 
     pub block-seen : (b : ℕ) → s b ≡ true → claim n (block b ∷ cs) s ≡ none
-    unfolding _and_
-    block-seen b e = block-test b false (rw e (and-off (ltb b n)))
+    block-seen b e = block-test b false (and-false (ltb b n) (not (s b)) (λ l u. true≢false (sym e ∙ not-true (s b) u)))
 
 -- a chain, block by block
 pub chain-step : (v : Bytes) (p k u : ℕ) → 0 < u
@@ -83,6 +79,16 @@ chain-step v p k (suc u) h = rw sub-one
 pub chain-end : (v : Bytes) (p k u : ℕ) → u ≡ 0 → chainClaims v p k u ≡ must (eqb k 0) ∷ []
 unfolding chainClaims
 chain-end v p k u h = rw h
+
+-- what is below a pointer of an index: nothing below a hole
+module _ (tree : ℕ → ℕ → List Claim) (v : Bytes) (q k i : ℕ) where
+  pub limb-hole : pointer v k i ≡ 0 → limbClaims tree v q k i ≡ []
+  unfolding limbClaims
+  limb-hole e = rw (eq-eqb (pointer v k i) 0 e, limbClaims)
+
+  pub limb-held : (pointer v k i ≡ 0 → ⊥) → limbClaims tree v q k i ≡ tree (q * 256 + i) (pointer v k i)
+  unfolding limbClaims
+  limb-held h = rw (ne-eqb (pointer v k i) 0 h, limbClaims)
 
 -- the walk, slot by slot
 pub walk-append : {A : Type 0} (below : ℕ → List ℕ) (step : A → ℕ → A) (l : ℕ) (a : A) (xs ys : List ℕ)

@@ -1,16 +1,16 @@
 -- What is known of a sound volume, as plain facts. Assumes nothing.
 use mathlib.Core.Path.{_≡_, refl, sym, subst}
-use mathlib.Core.List.{List, [], _∷_, _++_}
+use mathlib.Core.List.{List}
 use mathlib.Core.Bool.{Bool, true, false, false≢true}
 use mathlib.Core.Logic.{_↔_}
 use Prim.Native.Nat.{ℕ, zero, suc, _+_, _≤_, _<_}
 use native.Mathlib.Omega.{arith}
 use borrow.Author.Tests.{eqb-true, eqb-false, eq-eqb, leb-true, le-leb}
 use lib.Dec.{eqb, leb}
-use Rattle.model.specs.Bytes.{Bytes, sum, count, gather, ne, within, _and_}
+use Rattle.model.specs.Bytes.{Bytes, sum, count, gather, within}
 use Rattle.model.specs.Map.{free, restClear}
-use Rattle.model.specs.Directory.{sort, volume, mapPlace, mapBlock}
-use Rattle.model.specs.Walk.{Visit, walk, visits}
+use Rattle.model.specs.Directory.{sort, mapPlace, mapBlock}
+use Rattle.model.specs.Walk.{walk, visits}
 use Rattle.model.specs.Sound.{properSize, prodos, volumeFaults, topFaults, directoryFaults, faultsOf, faults, owned, eachOnce, faultless, sound}
 use Rattle.claims.proofs.TestLaws.{refuted, and-true, ne-zero, below-more}
 
@@ -63,18 +63,25 @@ sound-facts n v e =
       placed = z;
       faultfree = none;
       once = each-once mapPlace v (owned n v) n .0 (subst (λ m. eachOnce m v (owned n v) n ≡ true) z (t .0));
-      rest = subst (λ m. restClear m v n ≡ true) z (t .1)
+      rest = subst (λ m. restClear m v n ≡ true) z (t .1);
     }
 
 pub facts-sound : (n : ℕ) (v : Bytes) → Facts n v → sound n v ≡ true
 unfolding sound faultless within
 facts-sound n v f =
-    and-true (properSize n) _ .1 (and-true (leb 16 n) _ .1 (le-leb 16 n (f .least), le-leb n 65535 (f .most)),
-    and-true (prodos n v) _ .1 (f .header,
-    and-true (faultless n v) _ .1 (eq-eqb (allFaults n v) 0 (f .faultfree),
-    and-true (eachOnce (mapBlock v) v (owned n v) n) _ .1
-    (subst (λ m. eachOnce m v (owned n v) n ≡ true) (sym (f .placed)) (each-once mapPlace v (owned n v) n .1 (f .once)),
-    subst (λ m. restClear m v n ≡ true) (sym (f .placed)) (f .rest)))))
+    and-true (properSize n) _ .1 (
+      and-true (leb 16 n) _ .1 (le-leb 16 n (f .least), le-leb n 65535 (f .most)),
+      and-true (prodos n v) _ .1 (
+        f .header,
+        and-true (faultless n v) _ .1 (
+          eq-eqb (allFaults n v) 0 (f .faultfree),
+          and-true (eachOnce (mapBlock v) v (owned n v) n) _ .1 (
+            subst (λ m. eachOnce m v (owned n v) n ≡ true) (sym (f .placed)) (each-once mapPlace v (owned n v) n .1 (f .once)),
+            subst (λ m. restClear m v n ≡ true) (sym (f .placed)) (f .rest),
+          ),
+        ),
+      ),
+    )
 
 pub not-prodos : (n : ℕ) (v : Bytes) → prodos n v ≡ false → sound n v ≡ false
 not-prodos n v e = refuted (sound n v) (λ s. let z : _≡_ {A = ℕ} 0 1 = cc (sound-facts n v s .header) in omega arith)

@@ -5,7 +5,12 @@ use Prim.Native.Nat.{ℕ, zero, suc, _+_, _-_, _≤_, _<_}
 use native.Mathlib.Nat.{not-suc-le-zero}
 use native.Mathlib.Numerals.{add-one, sub-one}
 use native.Mathlib.Omega.{arith}
-use Rattle.model.specs.Bytes.{sum, gather, run}
+use borrow.Author.Tests.{leb-false, ltb-true, ltb-false}
+use lib.Dec.{leb, ltb}
+use Rattle.model.specs.Bytes.{sum, count, gather, run}
+use Rattle.model.specs.Sound.{outside}
+use Rattle.model.proofs.ByteLaws.{at-or-off}
+use Rattle.claims.proofs.TestLaws.{decide, none-off, is-same, is-other}
 
 module _ {A : Type 0} (f : A → ℕ) where
   pub sum-append : (xs ys : List A) → sum f (xs ++ ys) ≡ sum f xs + sum f ys
@@ -61,3 +66,28 @@ module _ {A : Type 0} (f : ℕ → List A) (i : ℕ) where
   pub gather-end : (c : ℕ) → c ≡ 0 → gather f (run i c) ≡ []
   unfolding gather run
   gather-end c h = rw h
+
+-- how often a number stands in a run, and what it is if it stands in a list of blocks of the volume
+module _ (b : ℕ) where
+  pub count-out : (a c : ℕ) → (a ≤ b → b < a + c → ⊥) → count b (run a c) ≡ 0
+  unfolding sum run
+  count-out a zero h = refl
+  count-out a (suc c) h =
+      omega (arith, is-other b a (λ e. h (omega arith) (omega arith)), count-out (suc a) c (λ l m. h (omega arith) (omega arith)))
+
+  pub count-in : (a c : ℕ) → a ≤ b → b < a + c → count b (run a c) ≡ 1
+  unfolding sum run
+  count-in a zero l h = absurd (omega arith)
+  count-in a (suc c) l h =
+      at-or-off b a (λ e. omega (arith, is-same b a e, count-out (suc a) c (λ l m. omega arith)))
+      (λ o. omega (arith, is-other b a o, count-in (suc a) c (omega (arith, o)) (omega arith)))
+
+  pub off-volume : (n : ℕ) (bs : List ℕ) → outside n bs ≡ 0 → n ≤ b → count b bs ≡ 0
+  unfolding sum
+  off-volume n [] o l = refl
+  off-volume n (x ∷ bs) o l =
+      let h : x < n = leb-false n x (none-off (leb n x) (omega arith)) in
+      omega (arith, is-other b x (λ e. omega arith), off-volume n bs (omega arith) l)
+
+  pub on-volume : (n : ℕ) (bs : List ℕ) → outside n bs ≡ 0 → 1 ≤ count b bs → b < n
+  on-volume n bs o c = decide (ltb b n) (ltb-true b n) (λ e. absurd (omega (arith, off-volume n bs o (ltb-false b n e))))

@@ -1,5 +1,5 @@
 -- Tests, and what they count for. Assumes nothing.
-use mathlib.Core.Path.{_≡_, refl, sym, _∙_}
+use mathlib.Core.Path.{_≡_, refl, sym}
 use mathlib.Core.Bool.{Bool, true, false, not, false≢true, Bool·beq}
 use mathlib.Core.Logic.{_↔_}
 use Prim.Native.Nat.{ℕ, suc, _+_, _≤_, _<_}
@@ -44,12 +44,16 @@ pub one-most : (t : Bool) → one-if t ≤ 1
 one-most true = omega arith
 one-most false = omega arith
 
+pub one-on : (t : Bool) → (t ≡ true) ↔ (1 ≤ one-if t)
+one-on true = (λ e. omega arith, λ h. refl)
+one-on false = (λ e. absurd (false≢true e), λ h. absurd (omega arith))
+
 pub none-off : (t : Bool) → one-if t ≡ 0 → t ≡ false
 none-off true e = absurd (omega arith)
 none-off false e = refl
 
-pub is-self : (b : ℕ) → is b b ≡ 1
-is-self b = rw (eq-eqb b b refl)
+pub is-same : (a b : ℕ) → a ≡ b → is a b ≡ 1
+is-same a b h = rw (eq-eqb a b h)
 
 pub is-other : (a b : ℕ) → (a ≡ b → ⊥) → is a b ≡ 0
 is-other a b h = rw (ne-eqb a b h)
