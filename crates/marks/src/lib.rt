@@ -191,13 +191,12 @@ pub fn map_right(img: &[u8], seen: &[u8], n: usize) -> bool
     requires { ⌜ (16 ≤ n) × (n ≤ 65535) × (length (now seen) ≡ 8192) × (length (now img) ≡ n * 512) ⌝ }
     ensures { λ r. ⌜ r ≡ mapRight (view (now (img .entry))) (marks (now (seen .entry))) n ⌝ }
 {
-    let mut left = n;
-    while 0 < left {
-        let b = left - 1;
+    let mut b = 0;
+    while b < n {
         if map::is_free(img, MAP_PLACE, b) == map::is_free(seen, 0, b) {
             return false;
         }
-        left = b;
+        b += 1;
     }
     true
 }

@@ -24,8 +24,8 @@ returns c =
     let a = c .before .before .before .before .args in
     let p = c .before .get-pointer in
     let v = view (a .img .now) in
-    let limb = hole-claims v (a .q) (a .key) (a .i) (p .result) (p .ensures .0) (treeClaims v (a .end) 0) (c .if1 .taken) in
-    let none = hole-nodes v (a .q) (a .key) (a .i) (p .result) (p .ensures .0) (nodes v 0) (c .if1 .taken) in
+    let limb = hole-claims v (a .q) (a .key) (a .i) (p .result) (p .ensures .0) (c .if1 .taken) (treeClaims v (a .end) 0) in
+    let none = hole-nodes v (a .q) (a .key) (a .i) (p .result) (p .ensures .0) (c .if1 .taken) (nodes v 0) in
     (sym (ap (λ (cs : List Claim). claim (a .n) cs (marks (a .seen .now))) limb), ((λ _. sym (ap length none)), omega arith))
 
 mul-claim-node : tie.Need-mul-claim-node
@@ -46,7 +46,7 @@ returns-2 c =
     let p = c .before .before .before .before .before .before .get-pointer in
     let k = c .before .before .before .claim-node in
     let v = view (a .img .now) in
-    let limb = data-below v (a .end) (a .q) (a .key) (a .i) (p .result) (p .ensures .0) (c .before .before .before .before .before .if1 .left) in
+    let limb = data-below v (a .q) (a .key) (a .i) (p .result) (p .ensures .0) (c .before .before .before .before .before .if1 .left) (a .end) in
     let whole = k .ensures ∙ ap (λ (cs : List Claim). claim (a .n) cs (marks (a .seen .now))) (sym limb) in (
       when-refused (marks (k .last .0)) (k .result) _ whole (not-true (k .result) (c .if2 .taken)),
       ((λ z. absurd (false≢true z)), omega arith),
@@ -61,9 +61,9 @@ returns-3 c =
     let p = c .before .before .before .before .before .before .get-pointer in
     let k = c .before .before .before .claim-node in
     let v = view (a .img .now) in
-    let limb = data-below v (a .end) (a .q) (a .key) (a .i) (p .result) (p .ensures .0) (c .before .before .before .before .before .if1 .left) in
+    let limb = data-below v (a .q) (a .key) (a .i) (p .result) (p .ensures .0) (c .before .before .before .before .before .if1 .left) (a .end) in
     let whole = k .ensures ∙ ap (λ (cs : List Claim). claim (a .n) cs (marks (a .seen .now))) (sym limb) in
-    let one = held-nodes v (a .q) (a .key) (a .i) (p .result) (p .ensures .0) (nodes v 0) (c .before .before .before .before .before .if1 .left) in (
+    let one = held-nodes v (a .q) (a .key) (a .i) (p .result) (p .ensures .0) (c .before .before .before .before .before .if1 .left) (nodes v 0) in (
       when-taken (marks (k .last .0)) (k .result) _ whole (not-false (k .result) (c .if2 .left)),
       ((λ _. sym (ap length one ∙ leaf-count v (a .q * 256 + a .i) (p .result))), omega arith),
     )

@@ -21,8 +21,8 @@ returns c =
     let a = c .before .before .before .before .args in
     let p = c .before .get-pointer in
     let v = view (a .img .now) in
-    let limb = hole-claims v 0 (a .key) (a .i) (p .result) (p .ensures .0) (treeClaims v (a .end) 1) (c .if1 .taken) in
-    let none = hole-nodes v 0 (a .key) (a .i) (p .result) (p .ensures .0) (nodes v 1) (c .if1 .taken) in
+    let limb = hole-claims v 0 (a .key) (a .i) (p .result) (p .ensures .0) (c .if1 .taken) (treeClaims v (a .end) 1) in
+    let none = hole-nodes v 0 (a .key) (a .i) (p .result) (p .ensures .0) (c .if1 .taken) (nodes v 1) in
     (sym (ap (λ (cs : List Claim). claim (a .n) cs (marks (a .seen .now))) limb), ((λ _. sym (ap length none)), omega arith))
 
 claim-index-requires : tie.Need-claim-index-requires
