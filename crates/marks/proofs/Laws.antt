@@ -1,7 +1,7 @@
 -- Marks set in a slice, and what a step of the code leaves to claim, to count and to compare. Assumes nothing.
 use mathlib.Core.Path.{_≡_, refl, sym, ap, _∙_, fun-ext}
 use mathlib.Core.List.{List, [], _∷_, _++_}
-use mathlib.Core.Bool.{Bool, true, false, not, Bool·beq, false≢true}
+use mathlib.Core.Bool.{Bool, true, false, not, Bool·beq}
 use mathlib.Core.Option.{Option, none, some}
 use Prim.Native.Nat.{ℕ, zero, suc, _+_, _-_, _*_, _/_, _%_, _≤_, _<_}
 use native.Mathlib.Omega.{arith}
@@ -274,24 +274,18 @@ module _ (v : Bytes) (k i p : ℕ) (is-pointer : p ≡ pointer v k i) (held : p 
   index-nodes = held-nodes v 0 k i p is-pointer held (nodes v 1) ∙ ap (λ (j : ℕ). nodes v 1 j p) number
 
 -- The map: a block's bit and its mark must differ.
+apart : (p q : Bool) → Bool·beq p (not q) ≡ not (Bool·beq p q)
+apart true true = refl
+apart true false = refl
+apart false true = refl
+apart false false = refl
+
 module _ (v : Bytes) (s : Seen) (b : ℕ) (p q : Bool) (is-bit : p ≡ eqb (free mapPlace v b) 1) (is-mark : q ≡ s b) where
-  right : {t : Bool} → Bool·beq p (not q) ≡ t → Bool·beq (eqb (free mapPlace v b) 1) (not (s b)) ≡ t
-  right e = rw (← is-bit, ← is-mark) e
+  bit-test : Bool·beq (eqb (free mapPlace v b) 1) (not (s b)) ≡ not (Bool·beq p q)
+  bit-test = rw (← is-bit, ← is-mark) (apart p q)
 
   pub map-on : Bool·beq p q ≡ false → mapRight v s (b + 1) ≡ mapRight v s b
-  map-on e = map-step v s b (right (go p q e))
-    where
-      go : (p q : Bool) → Bool·beq p q ≡ false → Bool·beq p (not q) ≡ true
-      go true true e = absurd (false≢true (sym e))
-      go true false e = refl
-      go false true e = refl
-      go false false e = absurd (false≢true (sym e))
+  map-on e = map-step v s b (bit-test ∙ ap not e)
 
   pub map-off : (n : ℕ) → b < n → Bool·beq p q ≡ true → false ≡ mapRight v s n
-  map-off n l e = sym (map-wrong v s b n l (right (go p q e)))
-    where
-      go : (p q : Bool) → Bool·beq p q ≡ true → Bool·beq p (not q) ≡ false
-      go true true e = refl
-      go true false e = absurd (false≢true e)
-      go false true e = absurd (false≢true e)
-      go false false e = refl
+  map-off n l e = sym (map-wrong v s b n l (bit-test ∙ ap not e))
