@@ -4,22 +4,21 @@ use mathlib.Core.List.{List, [], _∷_, _++_}
 use mathlib.Core.Bool.{Bool, true, false, not, Bool·beq}
 use mathlib.Core.Option.{Option, none, some}
 use Prim.Native.Nat.{ℕ, zero, suc, _+_, _-_, _*_, _/_, _%_, _≤_, _<_}
-use native.Mathlib.Nat.{not-suc-le-zero}
-use native.Mathlib.Numerals.{sub-one}
 use native.Mathlib.Omega.{arith}
 use borrow.Author.Tests.{eqb-true, eqb-false, eq-eqb, ne-eqb, ltb-true, ltb-false, lt-ltb, le-ltb, le-leb, leb-true}
 use lib.Dec.{eqb, leb, ltb}
 use lib.ListN.{length, length-append, getD, replicate}
 use Rattle.model.specs.Bytes.{Bytes, view, Octets, is, gather, run, _and_, _or_}
 use Rattle.model.specs.Map.{bit, mapAt, free, given, mapBlocks}
-use Rattle.model.specs.Directory.{previous, next}
+use Rattle.model.specs.Directory.{mapPlace, previous, next}
 use Rattle.model.specs.File.{Node, pointer, limb, nodes, firstBelow}
 use Rattle.model.proofs.ByteLaws.{at-or-off}
 use Rattle.model.proofs.BitLaws.{bit-zero, is-yes, is-no, free-most, given-free}
 use Rattle.claims.specs.Claims.{Claim, block, must, Seen, with, claim, outcome, chainClaims, limbClaims, treeClaims, reserved, mapRight}
 use Rattle.claims.proofs.TestLaws.{decide}
 use Rattle.claims.proofs.SumLaws.{gather-step, gather-end}
-use Rattle.claims.proofs.ClaimLaws.{taken, refused, must-on, must-off, block-on, block-outside, chain-step, chain-end}
+use Rattle.claims.proofs.ClaimLaws.{taken, refused, must-on, must-off, block-on, block-outside, chain-step, chain-end, limb-hole, limb-held}
+use Rattle.claims.proofs.Agreement.{map-step, map-wrong}
 use Rattle.marks.specs.Marks.{marks, nothing}
 
 -- A slice of marks is a map that starts at block 0: to mark a block is to give it there.
@@ -36,11 +35,11 @@ module _ (l l′ : List ℕ) (b : ℕ) (octets : Octets (view l)) (gave : view l
   mark-at x true p =
       let q : b ≡ x = sym (eqb-true x b p) in
       let z : free 0 (view l) x + is b x * (1 - free 0 (view l) b) ≡ 1 =
-          rw (is-yes b x q) (omega (arith, free-most 0 (view l) b, ap (free 0 (view l)) q)) in
+      rw (is-yes b x q) (omega (arith, free-most 0 (view l) b, ap (free 0 (view l)) q)) in
       eq-eqb _ 1 z
   mark-at x false p =
       let z : free 0 (view l) x + is b x * (1 - free 0 (view l) b) ≡ free 0 (view l) x =
-          rw (is-no b x (λ q. eqb-false x b p (sym q))) (omega arith) in
+      rw (is-no b x (λ q. eqb-false x b p (sym q))) (omega arith) in
       ap (λ (k : ℕ). eqb k 1) z ∙ sym (marks-free l x)
 
   pub marked : marks l′ ≡ with b (marks l)
@@ -243,69 +242,50 @@ pub leaf-count : (v : Bytes) (q k : ℕ) → length (nodes v 0 q k) ≡ 1
 unfolding nodes
 leaf-count v q k = refl
 
--- Below a pointer p: nothing where it is 0.
+-- Below a pointer p: nothing where it is 0, else a data block below an index, and an index below a master.
 module _ (v : Bytes) (q k i p : ℕ) (is-pointer : p ≡ pointer v k i) where
-  module _ (tree : ℕ → ℕ → List Claim) where
-    pub hole-claims : p ≡ 0 → limbClaims tree v q k i ≡ []
-    unfolding limbClaims
-    hole-claims z = rw (eq-eqb (pointer v k i) 0 (sym is-pointer ∙ z), limbClaims)
+  module _ (hole : p ≡ 0) where
+    pub hole-claims : (tree : ℕ → ℕ → List Claim) → limbClaims tree v q k i ≡ []
+    hole-claims tree = limb-hole tree v q k i (sym is-pointer ∙ hole)
 
-    pub held-claims : (p ≡ 0 → ⊥) → limbClaims tree v q k i ≡ tree (q * 256 + i) p
-    unfolding limbClaims
-    held-claims z = rw (is-pointer, ne-eqb (pointer v k i) 0 (λ y. z (is-pointer ∙ y)), limbClaims)
-
-  module _ (tree : ℕ → ℕ → List Node) where
-    pub hole-nodes : p ≡ 0 → limb tree v q k i ≡ []
+    pub hole-nodes : (tree : ℕ → ℕ → List Node) → limb tree v q k i ≡ []
     unfolding limb
-    hole-nodes z = rw (eq-eqb (pointer v k i) 0 (sym is-pointer ∙ z), limb)
+    hole-nodes tree = rw (eq-eqb (pointer v k i) 0 (sym is-pointer ∙ hole), limb)
 
-    pub held-nodes : (p ≡ 0 → ⊥) → limb tree v q k i ≡ tree (q * 256 + i) p
+  module _ (held : p ≡ 0 → ⊥) where
+    pub held-claims : (tree : ℕ → ℕ → List Claim) → limbClaims tree v q k i ≡ tree (q * 256 + i) p
+    held-claims tree = rw is-pointer (limb-held tree v q k i (λ z. held (is-pointer ∙ z)))
+
+    pub held-nodes : (tree : ℕ → ℕ → List Node) → limb tree v q k i ≡ tree (q * 256 + i) p
     unfolding limb
-    held-nodes z = rw (is-pointer, ne-eqb (pointer v k i) 0 (λ y. z (is-pointer ∙ y)), limb)
+    held-nodes tree = rw (is-pointer, ne-eqb (pointer v k i) 0 (λ z. held (is-pointer ∙ z)), limb)
 
--- a data block below an index, and an index below a master
-pub data-below : (v : Bytes) (e q k i p : ℕ) → p ≡ pointer v k i → (p ≡ 0 → ⊥)
-    → limbClaims (treeClaims v e 0) v q k i ≡ must (ltb (q * 256 + i) e) ∷ block p ∷ []
-data-below v e q k i p a z = held-claims v q k i p a (treeClaims v e 0) z ∙ leaf-claims v e (q * 256 + i) p
+    pub data-below : (e : ℕ) → limbClaims (treeClaims v e 0) v q k i ≡ must (ltb (q * 256 + i) e) ∷ block p ∷ []
+    data-below e = held-claims (treeClaims v e 0) ∙ leaf-claims v e (q * 256 + i) p
 
-module _ (v : Bytes) (k i p : ℕ) (is-pointer : p ≡ pointer v k i) (solid : p ≡ 0 → ⊥) where
+module _ (v : Bytes) (k i p : ℕ) (is-pointer : p ≡ pointer v k i) (held : p ≡ 0 → ⊥) where
+  number : 0 * 256 + i ≡ i
+  number = omega arith
+
   pub index-below : (e : ℕ) → limbClaims (treeClaims v e 1) v 0 k i ≡ treeClaims v e 1 i p
-  index-below e =
-      let z : 0 * 256 + i ≡ i = omega arith in
-      held-claims v 0 k i p is-pointer (treeClaims v e 1) solid ∙ ap (λ (j : ℕ). treeClaims v e 1 j p) z
+  index-below e = held-claims v 0 k i p is-pointer held (treeClaims v e 1) ∙ ap (λ (j : ℕ). treeClaims v e 1 j p) number
 
   pub index-nodes : limb (nodes v 1) v 0 k i ≡ nodes v 1 i p
-  index-nodes =
-      let z : 0 * 256 + i ≡ i = omega arith in
-      held-nodes v 0 k i p is-pointer (nodes v 1) solid ∙ ap (λ (j : ℕ). nodes v 1 j p) z
+  index-nodes = held-nodes v 0 k i p is-pointer held (nodes v 1) ∙ ap (λ (j : ℕ). nodes v 1 j p) number
 
--- The map: a bit that is as it should be leaves the others, and one that is not decides.
-module _ (v : Bytes) (s : Seen) (p q : Bool) where
-  pub map-on : (k : ℕ) → p ≡ eqb (free 6 v (k - 1)) 1 → q ≡ s (k - 1) → 0 < k → Bool·beq p q ≡ false
-      → mapRight v s (k - 1) ≡ mapRight v s k
-  unfolding mapRight _and_
-  map-on zero x y h e = absurd (not-suc-le-zero h)
-  map-on (suc k) x y h e =
-      rw sub-one (rw (← rw sub-one at x, ← rw sub-one at y) (go p q e))
-    where
-      go : (p q : Bool) → Bool·beq p q ≡ false → mapRight v s k ≡ (Bool·beq p (not q) and mapRight v s k)
-      go true true e = let o : _≡_ {A = ℕ} 0 1 = cc in absurd (omega arith)
-      go true false e = refl
-      go false true e = refl
-      go false false e = let o : _≡_ {A = ℕ} 0 1 = cc in absurd (omega arith)
+-- The map: a block's bit and its mark must differ.
+apart : (p q : Bool) → Bool·beq p (not q) ≡ not (Bool·beq p q)
+apart true true = refl
+apart true false = refl
+apart false true = refl
+apart false false = refl
 
-  pub map-off : (k : ℕ) → p ≡ eqb (free 6 v (k - 1)) 1 → q ≡ s (k - 1) → 0 < k → Bool·beq p q ≡ true → false ≡ mapRight v s k
-  unfolding mapRight _and_
-  map-off zero x y h e = absurd (not-suc-le-zero h)
-  map-off (suc k) x y h e = rw (← rw sub-one at x, ← rw sub-one at y) (go p q e)
-    where
-      go : (p q : Bool) → Bool·beq p q ≡ true → false ≡ (Bool·beq p (not q) and mapRight v s k)
-      go true true e = refl
-      go true false e = let o : _≡_ {A = ℕ} 0 1 = cc in absurd (omega arith)
-      go false true e = let o : _≡_ {A = ℕ} 0 1 = cc in absurd (omega arith)
-      go false false e = refl
+module _ (v : Bytes) (s : Seen) (b : ℕ) (p q : Bool) (is-bit : p ≡ eqb (free mapPlace v b) 1) (is-mark : q ≡ s b) where
+  bit-test : Bool·beq (eqb (free mapPlace v b) 1) (not (s b)) ≡ not (Bool·beq p q)
+  bit-test = rw (← is-bit, ← is-mark) (apart p q)
 
-pub map-none : (v : Bytes) (s : Seen) (k : ℕ) → k ≤ 0 → true ≡ mapRight v s k
-unfolding mapRight
-map-none v s zero h = refl
-map-none v s (suc k) h = absurd (not-suc-le-zero h)
+  pub map-on : Bool·beq p q ≡ false → mapRight v s (b + 1) ≡ mapRight v s b
+  map-on e = map-step v s b (bit-test ∙ ap not e)
+
+  pub map-off : (n : ℕ) → b < n → Bool·beq p q ≡ true → false ≡ mapRight v s n
+  map-off n l e = sym (map-wrong v s b n l (bit-test ∙ ap not e))

@@ -11,6 +11,9 @@ ghost use Rattle.model.specs.File.{limb, nodes};
 ghost use Rattle.claims.specs.Claims.{block, must, claim, outcome, chainClaims, limbClaims, treeClaims, reserved, mapRight};
 ghost use Rattle.marks.specs.Marks.{marks, nothing, tookAll, tookCount};
 
+const MAP_PLACE: usize = 6;
+
+// What a claim of a whole file answers: how many blocks it has, or that a claim failed.
 pub enum Took {
     Count(usize),
     No,
@@ -38,8 +41,8 @@ pub fn reserve(seen: &mut [u8], n: usize)
 {
     map::give(seen, 0, 0);
     map::give(seen, 0, 1);
-    let map_end = 6 + map::map_blocks(n);
-    let mut b = 6;
+    let map_end = MAP_PLACE + map::map_blocks(n);
+    let mut b = MAP_PLACE;
     while b < map_end {
         map::give(seen, 0, b);
         b += 1;
@@ -68,7 +71,7 @@ pub fn claim_chain(img: &[u8], seen: &mut [u8], key: usize, used: usize, n: usiz
     b == 0
 }
 
-// Claims block b of a file, below which its file block `first` is the first: the file ends before `end`.
+// Claims block b of a file that ends before file block `end`; `first` is the first file block below b.
 fn claim_node(seen: &mut [u8], first: usize, end: usize, b: usize, n: usize) -> bool
     requires { ⌜ (n ≤ 65535) × (length (now seen) ≡ 8192) ⌝ }
     ensures { λ r. ⌜ outcome r (marks (now (seen .exit))) ≡ claim n (must (ltb first end) ∷ block b ∷ []) (marks (now (seen .entry))) ⌝ }
@@ -80,7 +83,15 @@ fn claim_node(seen: &mut [u8], first: usize, end: usize, b: usize, n: usize) -> 
 }
 
 // Claims what pointer i of the index block `key` with number q leads to: nothing where it is a hole.
-fn claim_data(img: &[u8], seen: &mut [u8], q: usize, key: usize, i: usize, end: usize, n: usize) -> Took
+fn claim_data(
+    img: &[u8],
+    seen: &mut [u8],
+    q: usize,
+    key: usize,
+    i: usize,
+    end: usize,
+    n: usize,
+) -> Took
     requires { ⌜ (n ≤ 65535) × (length (now seen) ≡ 8192) × (length (now img) ≡ n * 512) × (key < n) × (q < 256) × (i < 256) ⌝ }
     ensures { λ r. ⌜ outcome (tookAll r) (marks (now (seen .exit))) ≡ claim n (limbClaims (treeClaims (view (now (img .entry))) end 0) (view (now (img .entry))) q key i) (marks (now (seen .entry))) ⌝ }
     ensures { λ r. ⌜ (tookAll r ≡ true → tookCount r ≡ length (limb (nodes (view (now (img .entry))) 0) (view (now (img .entry))) q key i)) × (tookCount r ≤ 1) ⌝ }
@@ -139,19 +150,26 @@ fn claim_master(img: &[u8], seen: &mut [u8], key: usize, end: usize, n: usize) -
         return Took::No;
     }
     let mut count = 1;
-    let mut i = 0;
-    while i < 256 {
-        let Took::Count(below) = claim_limb(img, seen, key, i, end, n) else {
+    let mut q = 0;
+    while q < 256 {
+        let Took::Count(below) = claim_limb(img, seen, key, q, end, n) else {
             return Took::No;
         };
         count += below;
-        i += 1;
+        q += 1;
     }
     Took::Count(count)
 }
 
 // Claims the blocks of a file of a height that ends before file block `end`, and counts them.
-pub fn claim_tree(img: &[u8], seen: &mut [u8], height: usize, key: usize, end: usize, n: usize) -> Took
+pub fn claim_tree(
+    img: &[u8],
+    seen: &mut [u8],
+    height: usize,
+    key: usize,
+    end: usize,
+    n: usize,
+) -> Took
     requires { ⌜ (n ≤ 65535) × (length (now seen) ≡ 8192) × (length (now img) ≡ n * 512) × (height < 3) ⌝ }
     ensures { λ r. ⌜ outcome (tookAll r) (marks (now (seen .exit))) ≡ claim n (treeClaims (view (now (img .entry))) end height 0 key) (marks (now (seen .entry))) ⌝ }
     ensures { λ r. ⌜ (tookAll r ≡ true → tookCount r ≡ length (nodes (view (now (img .entry))) height 0 key)) × (tookCount r ≤ 65793) ⌝ }
@@ -168,18 +186,17 @@ pub fn claim_tree(img: &[u8], seen: &mut [u8], height: usize, key: usize, end: u
     Took::Count(1)
 }
 
-// Whether the map, which starts at block 6, calls free just what is not claimed.
+// Whether the map calls free just what is not claimed.
 pub fn map_right(img: &[u8], seen: &[u8], n: usize) -> bool
     requires { ⌜ (16 ≤ n) × (n ≤ 65535) × (length (now seen) ≡ 8192) × (length (now img) ≡ n * 512) ⌝ }
     ensures { λ r. ⌜ r ≡ mapRight (view (now (img .entry))) (marks (now (seen .entry))) n ⌝ }
 {
-    let mut left = n;
-    while 0 < left {
-        let b = left - 1;
-        if map::is_free(img, 6, b) == map::is_free(seen, 0, b) {
+    let mut b = 0;
+    while b < n {
+        if map::is_free(img, MAP_PLACE, b) == map::is_free(seen, 0, b) {
             return false;
         }
-        left = b;
+        b += 1;
     }
     true
 }

@@ -1,6 +1,5 @@
 -- `marks::claim_chain` meets its contract. The loop's invariant: the claims of the chain that is left, after what is marked, are those of the whole. The measure is the blocks left. Assumes nothing.
 use mathlib.Core.Path.{_≡_, refl, _∙_}
-use Prim.Native.Nat.{_-_}
 use native.Mathlib.Omega.{arith}
 use lib.ListN.{length}
 use borrow.Author.Tests.{not-true, not-false}
@@ -112,7 +111,7 @@ loop-again c =
     let w = c .before .before .get-word in
     let x = c .get-word2 in
     let on = chain-on (a .n) v (l .previous) (l .b) (l .left) (marks (l .seen)) (marks (k .last .0)) (k .result) (c .before .before .before .before .before .before .before .before .loop-test .taken)
-        (k .ensures) (w .result) (x .result) (w .ensures .0) (c .before .if2 .left) (x .ensures .0) (not-false _ (c .before .before .before .if1 .left)) in
+    (k .ensures) (w .result) (x .result) (w .ensures .0) (c .before .if2 .left) (x .ensures .0) (not-false _ (c .before .before .before .if1 .left)) in
     (omega arith, on ∙ l .inv .1)
 
 same-length-3 : tie.Need-same-length-3 Inv-loop μ-loop

@@ -1,6 +1,7 @@
 -- `marks::claim_data` meets its contract. A hole claims nothing, another pointer one block. Assumes nothing.
-use mathlib.Core.Path.{_≡_, sym, ap, _∙_}
-use Prim.Native.Nat.{ℕ, _+_, _*_}
+use mathlib.Core.Path.{sym, ap, _∙_}
+use mathlib.Core.Bool.{false≢true}
+use Prim.Native.Nat.{_+_, _*_}
 use mathlib.Core.List.{List}
 use native.Mathlib.Omega.{arith}
 use lib.ListN.{length}
@@ -23,8 +24,8 @@ returns c =
     let a = c .before .before .before .before .args in
     let p = c .before .get-pointer in
     let v = view (a .img .now) in
-    let limb = hole-claims v (a .q) (a .key) (a .i) (p .result) (p .ensures .0) (treeClaims v (a .end) 0) (c .if1 .taken) in
-    let none = hole-nodes v (a .q) (a .key) (a .i) (p .result) (p .ensures .0) (nodes v 0) (c .if1 .taken) in
+    let limb = hole-claims v (a .q) (a .key) (a .i) (p .result) (p .ensures .0) (c .if1 .taken) (treeClaims v (a .end) 0) in
+    let none = hole-nodes v (a .q) (a .key) (a .i) (p .result) (p .ensures .0) (c .if1 .taken) (nodes v 0) in
     (sym (ap (λ (cs : List Claim). claim (a .n) cs (marks (a .seen .now))) limb), ((λ _. sym (ap length none)), omega arith))
 
 mul-claim-node : tie.Need-mul-claim-node
@@ -45,10 +46,11 @@ returns-2 c =
     let p = c .before .before .before .before .before .before .get-pointer in
     let k = c .before .before .before .claim-node in
     let v = view (a .img .now) in
-    let limb = data-below v (a .end) (a .q) (a .key) (a .i) (p .result) (p .ensures .0) (c .before .before .before .before .before .if1 .left) in
-    let whole = k .ensures ∙ ap (λ (cs : List Claim). claim (a .n) cs (marks (a .seen .now))) (sym limb) in
-    (when-refused (marks (k .last .0)) (k .result) _ whole (not-true (k .result) (c .if2 .taken)),
-    ((λ z. let o : _≡_ {A = ℕ} 0 1 = cc in absurd (omega arith)), omega arith))
+    let limb = data-below v (a .q) (a .key) (a .i) (p .result) (p .ensures .0) (c .before .before .before .before .before .if1 .left) (a .end) in
+    let whole = k .ensures ∙ ap (λ (cs : List Claim). claim (a .n) cs (marks (a .seen .now))) (sym limb) in (
+      when-refused (marks (k .last .0)) (k .result) _ whole (not-true (k .result) (c .if2 .taken)),
+      ((λ z. absurd (false≢true z)), omega arith),
+    )
 
 same-length-2 : tie.Need-same-length-2
 same-length-2 c = search needs
@@ -59,11 +61,12 @@ returns-3 c =
     let p = c .before .before .before .before .before .before .get-pointer in
     let k = c .before .before .before .claim-node in
     let v = view (a .img .now) in
-    let limb = data-below v (a .end) (a .q) (a .key) (a .i) (p .result) (p .ensures .0) (c .before .before .before .before .before .if1 .left) in
+    let limb = data-below v (a .q) (a .key) (a .i) (p .result) (p .ensures .0) (c .before .before .before .before .before .if1 .left) (a .end) in
     let whole = k .ensures ∙ ap (λ (cs : List Claim). claim (a .n) cs (marks (a .seen .now))) (sym limb) in
-    let one = held-nodes v (a .q) (a .key) (a .i) (p .result) (p .ensures .0) (nodes v 0) (c .before .before .before .before .before .if1 .left) in
-    (when-taken (marks (k .last .0)) (k .result) _ whole (not-false (k .result) (c .if2 .left)),
-    ((λ _. sym (ap length one ∙ leaf-count v (a .q * 256 + a .i) (p .result))), omega arith))
+    let one = held-nodes v (a .q) (a .key) (a .i) (p .result) (p .ensures .0) (c .before .before .before .before .before .if1 .left) (nodes v 0) in (
+      when-taken (marks (k .last .0)) (k .result) _ whole (not-false (k .result) (c .if2 .left)),
+      ((λ _. sym (ap length one ∙ leaf-count v (a .q * 256 + a .i) (p .result))), omega arith),
+    )
 
 pub claim-data-spec : {M : Type 1} → statement M
 claim-data-spec =

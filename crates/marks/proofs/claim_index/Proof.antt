@@ -1,6 +1,7 @@
 -- `marks::claim_index` meets its contract. The loop's invariant: what the pointers from i on lead to is left to claim and to count. The measure is the pointers left. Assumes nothing.
 use mathlib.Core.Path.{_≡_, sym, ap, _∙_}
-use Prim.Native.Nat.{ℕ, _+_, _-_, _*_, _≤_}
+use mathlib.Core.Bool.{false≢true}
+use Prim.Native.Nat.{_+_, _-_, _*_, _≤_}
 use native.Mathlib.Omega.{arith}
 use lib.ListN.{length}
 use borrow.Author.Tests.{not-true, not-false}
@@ -31,9 +32,10 @@ returns : tie.Need-returns Inv-loop μ-loop
 returns c =
     let a = c .before .before .before .before .before .before .before .args in
     let k = c .before .before .before .claim-node in
-    let v = view (a .img .now) in
-    (tree-refused (a .n) v (a .end) 0 (a .q) (a .key) (a .q * 256) (first-index (a .q)) (marks (a .seen .now)) (marks (k .last .0)) (k .result) (k .ensures) (not-true _ (c .if1 .taken)),
-    ((λ z. let o : _≡_ {A = ℕ} 0 1 = cc in absurd (omega arith)), omega arith))
+    let v = view (a .img .now) in (
+      tree-refused (a .n) v (a .end) 0 (a .q) (a .key) (a .q * 256) (first-index (a .q)) (marks (a .seen .now)) (marks (k .last .0)) (k .result) (k .ensures) (not-true _ (c .if1 .taken)),
+      ((λ z. absurd (false≢true z)), omega arith),
+    )
 
 loop-holds : tie.Need-loop-holds Inv-loop μ-loop
 loop-holds c =
@@ -67,10 +69,11 @@ returns-2 c =
     let l = c .before .before .before .before .before .before .before .loop in
     let d = c .before .before .before .before .claim-data in
     let s = marks (l .seen) in
-    let s′ = marks (d .last .1 .0) in
-    (below-refused (a .n) v (a .end) 0 (a .q) (a .key) (marks (k .last .0)) s (l .i) (l .count) (l .inv .3) s′ (tookAll (d .result)) (c .before .before .before .before .before .before .loop-test .taken) (d .ensures .0) (ap tookAll (c .enum-told .given .1))
-    ∙ tree-on (a .n) v (a .end) 0 (a .q) (a .key) (a .q * 256) (first-index (a .q)) (marks (a .seen .now)) (marks (k .last .0)) (k .result) (k .ensures) (not-false _ (c .before .before .before .before .before .before .before .before .if1 .left)),
-    ((λ z. let o : _≡_ {A = ℕ} 0 1 = cc in absurd (omega arith)), omega arith))
+    let s′ = marks (d .last .1 .0) in (
+      below-refused (a .n) v (a .end) 0 (a .q) (a .key) (marks (k .last .0)) s (l .i) (l .count) (l .inv .3) s′ (tookAll (d .result)) (c .before .before .before .before .before .before .loop-test .taken) (d .ensures .0) (ap tookAll (c .enum-told .given .1))
+          ∙ tree-on (a .n) v (a .end) 0 (a .q) (a .key) (a .q * 256) (first-index (a .q)) (marks (a .seen .now)) (marks (k .last .0)) (k .result) (k .ensures) (not-false _ (c .before .before .before .before .before .before .before .before .if1 .left)),
+      ((λ z. absurd (false≢true z)), omega arith),
+    )
 
 add-count : tie.Need-add-count Inv-loop μ-loop
 add-count c = omega (arith, ap tookCount (c .before .below .given .1), c .before .before .before .before .before .claim-data .ensures .1 .1)
@@ -96,7 +99,7 @@ loop-again c =
       omega arith,
       omega (arith, d .ensures .1 .1),
       below-on (a .n) v (a .end) 0 (a .q) (a .key) (marks (k .last .0)) s (l .i) (l .count) (l .inv .3) s′ (tookAll (d .result)) (c .before .before .before .before .before .before .before .loop-test .taken) (d .ensures .0) all
-      (c .before .below .given .0 .0) (sym took ∙ d .ensures .1 .0 all),
+          (c .before .below .given .0 .0) (sym took ∙ d .ensures .1 .0 all),
     )
 
 same-length-3 : tie.Need-same-length-3 Inv-loop μ-loop
@@ -109,9 +112,10 @@ returns-3 c =
     let v = view (a .img .now) in
     let l = c .before .loop in
     let s = marks (l .seen) in
-    let done = below-done (a .n) v (a .end) 0 (a .q) (a .key) (marks (k .last .0)) s (l .i) (l .count) (l .inv .3) (c .loop-test .left) in
-    (done .0 ∙ tree-on (a .n) v (a .end) 0 (a .q) (a .key) (a .q * 256) (first-index (a .q)) (marks (a .seen .now)) (marks (k .last .0)) (k .result) (k .ensures) (not-false _ (c .before .before .if1 .left)),
-    ((λ _. done .1), omega arith))
+    let done = below-done (a .n) v (a .end) 0 (a .q) (a .key) (marks (k .last .0)) s (l .i) (l .count) (l .inv .3) (c .loop-test .left) in (
+      done .0 ∙ tree-on (a .n) v (a .end) 0 (a .q) (a .key) (a .q * 256) (first-index (a .q)) (marks (a .seen .now)) (marks (k .last .0)) (k .result) (k .ensures) (not-false _ (c .before .before .if1 .left)),
+      ((λ _. done .1), omega arith),
+    )
 
 pub claim-index-spec : {M : Type 1} → statement M
 claim-index-spec =

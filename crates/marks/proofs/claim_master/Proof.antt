@@ -1,6 +1,7 @@
--- `marks::claim_master` meets its contract. The loop's invariant: what the pointers from i on lead to is left to claim and to count. The measure is the pointers left. Assumes nothing.
+-- `marks::claim_master` meets its contract. The loop's invariant: what the pointers from q on lead to is left to claim and to count. The measure is the pointers left. Assumes nothing.
 use mathlib.Core.Path.{_≡_, sym, ap, _∙_}
-use Prim.Native.Nat.{ℕ, _+_, _-_, _*_, _≤_}
+use mathlib.Core.Bool.{false≢true}
+use Prim.Native.Nat.{_+_, _-_, _*_, _≤_}
 use native.Mathlib.Omega.{arith}
 use lib.ListN.{length}
 use borrow.Author.Tests.{not-true, not-false}
@@ -12,11 +13,11 @@ use Rattle.marks.proofs.claim_master.Statement.{statement}
 use Rattle.marks.proofs.claim_master.Tie as tie
 
 abbrev Inv-loop : tie.InvT-loop
-Inv-loop img seen₀ key end n count₀ i₀ seen count i =
-    (length seen ≡ 8192) × (i ≤ 256) × (count ≤ 1 + 257 * i) × Below n (view img) end 1 0 key (marks seen₀) (marks seen) i count
+Inv-loop img seen₀ key end n count₀ q₀ seen count q =
+    (length seen ≡ 8192) × (q ≤ 256) × (count ≤ 1 + 257 * q) × Below n (view img) end 1 0 key (marks seen₀) (marks seen) q count
 
 abbrev μ-loop : tie.MeasureT-loop
-μ-loop img seen₀ key end n count₀ i₀ seen count i = 256 - i
+μ-loop img seen₀ key end n count₀ q₀ seen count q = 256 - q
 
 claim-node-requires : tie.Need-claim-node-requires Inv-loop μ-loop
 claim-node-requires c κs = search needs
@@ -28,9 +29,10 @@ returns : tie.Need-returns Inv-loop μ-loop
 returns c =
     let a = c .before .before .before .before .before .before .before .args in
     let k = c .before .before .before .claim-node in
-    let v = view (a .img .now) in
-    (tree-refused (a .n) v (a .end) 1 0 (a .key) 0 first-master (marks (a .seen .now)) (marks (k .last .0)) (k .result) (k .ensures) (not-true _ (c .if1 .taken)),
-    ((λ z. let o : _≡_ {A = ℕ} 0 1 = cc in absurd (omega arith)), omega arith))
+    let v = view (a .img .now) in (
+      tree-refused (a .n) v (a .end) 1 0 (a .key) 0 first-master (marks (a .seen .now)) (marks (k .last .0)) (k .result) (k .ensures) (not-true _ (c .if1 .taken)),
+      ((λ z. absurd (false≢true z)), omega arith),
+    )
 
 loop-holds : tie.Need-loop-holds Inv-loop μ-loop
 loop-holds c =
@@ -64,16 +66,17 @@ returns-2 c =
     let l = c .before .before .before .before .before .before .before .loop in
     let d = c .before .before .before .before .claim-limb in
     let s = marks (l .seen) in
-    let s′ = marks (d .last .1 .0) in
-    (below-refused (a .n) v (a .end) 1 0 (a .key) (marks (k .last .0)) s (l .i) (l .count) (l .inv .3) s′ (tookAll (d .result)) (c .before .before .before .before .before .before .loop-test .taken) (d .ensures .0) (ap tookAll (c .enum-told .given .1))
-    ∙ tree-on (a .n) v (a .end) 1 0 (a .key) 0 first-master (marks (a .seen .now)) (marks (k .last .0)) (k .result) (k .ensures) (not-false _ (c .before .before .before .before .before .before .before .before .if1 .left)),
-    ((λ z. let o : _≡_ {A = ℕ} 0 1 = cc in absurd (omega arith)), omega arith))
+    let s′ = marks (d .last .1 .0) in (
+      below-refused (a .n) v (a .end) 1 0 (a .key) (marks (k .last .0)) s (l .q) (l .count) (l .inv .3) s′ (tookAll (d .result)) (c .before .before .before .before .before .before .loop-test .taken) (d .ensures .0) (ap tookAll (c .enum-told .given .1))
+          ∙ tree-on (a .n) v (a .end) 1 0 (a .key) 0 first-master (marks (a .seen .now)) (marks (k .last .0)) (k .result) (k .ensures) (not-false _ (c .before .before .before .before .before .before .before .before .if1 .left)),
+      ((λ z. absurd (false≢true z)), omega arith),
+    )
 
 add-count : tie.Need-add-count Inv-loop μ-loop
 add-count c = omega (arith, ap tookCount (c .before .below .given .1), c .before .before .before .before .before .claim-limb .ensures .1 .1)
 
-add-i : tie.Need-add-i Inv-loop μ-loop
-add-i c = omega arith
+add-q : tie.Need-add-q Inv-loop μ-loop
+add-q c = omega arith
 
 loop-less : tie.Need-loop-less Inv-loop μ-loop
 loop-less c = omega arith
@@ -92,8 +95,8 @@ loop-again c =
       omega arith,
       omega arith,
       omega (arith, d .ensures .1 .1),
-      below-on (a .n) v (a .end) 1 0 (a .key) (marks (k .last .0)) s (l .i) (l .count) (l .inv .3) s′ (tookAll (d .result)) (c .before .before .before .before .before .before .before .loop-test .taken) (d .ensures .0) all
-      (c .before .below .given .0 .0) (sym took ∙ d .ensures .1 .0 all),
+      below-on (a .n) v (a .end) 1 0 (a .key) (marks (k .last .0)) s (l .q) (l .count) (l .inv .3) s′ (tookAll (d .result)) (c .before .before .before .before .before .before .before .loop-test .taken) (d .ensures .0) all
+          (c .before .below .given .0 .0) (sym took ∙ d .ensures .1 .0 all),
     )
 
 same-length-3 : tie.Need-same-length-3 Inv-loop μ-loop
@@ -106,9 +109,10 @@ returns-3 c =
     let v = view (a .img .now) in
     let l = c .before .loop in
     let s = marks (l .seen) in
-    let done = below-done (a .n) v (a .end) 1 0 (a .key) (marks (k .last .0)) s (l .i) (l .count) (l .inv .3) (c .loop-test .left) in
-    (done .0 ∙ tree-on (a .n) v (a .end) 1 0 (a .key) 0 first-master (marks (a .seen .now)) (marks (k .last .0)) (k .result) (k .ensures) (not-false _ (c .before .before .if1 .left)),
-    ((λ _. done .1), omega arith))
+    let done = below-done (a .n) v (a .end) 1 0 (a .key) (marks (k .last .0)) s (l .q) (l .count) (l .inv .3) (c .loop-test .left) in (
+      done .0 ∙ tree-on (a .n) v (a .end) 1 0 (a .key) 0 first-master (marks (a .seen .now)) (marks (k .last .0)) (k .result) (k .ensures) (not-false _ (c .before .before .if1 .left)),
+      ((λ _. done .1), omega arith),
+    )
 
 pub claim-master-spec : {M : Type 1} → statement M
 claim-master-spec =
@@ -126,7 +130,7 @@ claim-master-spec =
     same-length-2
     returns-2
     add-count
-    add-i
+    add-q
     loop-less
     loop-again
     same-length-3

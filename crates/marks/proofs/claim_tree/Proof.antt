@@ -1,5 +1,6 @@
 -- `marks::claim_tree` meets its contract. Each height has its function. Assumes nothing.
 use mathlib.Core.Path.{_≡_, sym, ap, _∙_}
+use mathlib.Core.Bool.{false≢true}
 use mathlib.Core.List.{List}
 use Prim.Native.Nat.{ℕ}
 use native.Mathlib.Omega.{arith}
@@ -24,9 +25,10 @@ returns : tie.Need-returns
 returns c =
     let a = c .before .before .before .before .before .before .before .args in
     let k = c .before .before .claim-master in
-    let v = view (a .img .now) in
-    (k .ensures .0 ∙ ap (λ (h : ℕ). claim (a .n) (treeClaims v (a .end) h 0 (a .key)) (marks (a .seen .now))) (sym (c .before .before .before .before .if1 .taken)),
-    ((λ t. k .ensures .1 .0 t ∙ ap (λ (h : ℕ). length (nodes v h 0 (a .key))) (sym (c .before .before .before .before .if1 .taken))), omega (arith, k .ensures .1 .1)))
+    let v = view (a .img .now) in (
+      k .ensures .0 ∙ ap (λ (h : ℕ). claim (a .n) (treeClaims v (a .end) h 0 (a .key)) (marks (a .seen .now))) (sym (c .before .before .before .before .if1 .taken)),
+      ((λ t. k .ensures .1 .0 t ∙ ap (λ (h : ℕ). length (nodes v h 0 (a .key))) (sym (c .before .before .before .before .if1 .taken))), omega (arith, k .ensures .1 .1)),
+    )
 
 claim-index-requires : tie.Need-claim-index-requires
 claim-index-requires c κs = search needs
@@ -38,9 +40,10 @@ returns-2 : tie.Need-returns-2
 returns-2 c =
     let a = c .before .before .before .before .before .before .before .before .args in
     let k = c .before .before .claim-index in
-    let v = view (a .img .now) in
-    (k .ensures .0 ∙ ap (λ (h : ℕ). claim (a .n) (treeClaims v (a .end) h 0 (a .key)) (marks (a .seen .now))) (sym (c .before .before .before .before .if2 .taken)),
-    ((λ t. k .ensures .1 .0 t ∙ ap (λ (h : ℕ). length (nodes v h 0 (a .key))) (sym (c .before .before .before .before .if2 .taken))), omega (arith, k .ensures .1 .1)))
+    let v = view (a .img .now) in (
+      k .ensures .0 ∙ ap (λ (h : ℕ). claim (a .n) (treeClaims v (a .end) h 0 (a .key)) (marks (a .seen .now))) (sym (c .before .before .before .before .if2 .taken)),
+      ((λ t. k .ensures .1 .0 t ∙ ap (λ (h : ℕ). length (nodes v h 0 (a .key))) (sym (c .before .before .before .before .if2 .taken))), omega (arith, k .ensures .1 .1)),
+    )
 
 claim-node-requires : tie.Need-claim-node-requires
 claim-node-requires c κs = search needs
@@ -55,9 +58,10 @@ returns-3 c =
     let v = view (a .img .now) in
     let flat : a .height ≡ 0 = omega arith in
     let tree = ap (λ (h : ℕ). treeClaims v (a .end) h 0 (a .key)) flat ∙ leaf-claims v (a .end) 0 (a .key) in
-    let whole = k .ensures ∙ ap (λ (cs : List Claim). claim (a .n) cs (marks (a .seen .now))) (sym tree) in
-    (when-refused (marks (k .last .0)) (k .result) _ whole (not-true (k .result) (c .if3 .taken)),
-    ((λ z. let o : _≡_ {A = ℕ} 0 1 = cc in absurd (omega arith)), omega arith))
+    let whole = k .ensures ∙ ap (λ (cs : List Claim). claim (a .n) cs (marks (a .seen .now))) (sym tree) in (
+      when-refused (marks (k .last .0)) (k .result) _ whole (not-true (k .result) (c .if3 .taken)),
+      ((λ z. absurd (false≢true z)), omega arith),
+    )
 
 same-length-4 : tie.Need-same-length-4
 same-length-4 c = search needs
