@@ -14,7 +14,6 @@ ghost use Rattle.directory.specs.Slots.{placeNumber, Counted, entryWith,
 ghost use Rattle.directory.specs.Search.{Each, Readable, Searchable, slotsFrom, listed, foundIn, vacancyAt};
 ghost use Rattle.directory.specs.Lookup.{Sane, lookedAs, innerOf, lastOf};
 ghost use Rattle.names.specs.Steps.{partsLeft};
-
 use model::Entry;
 use model::Found;
 use model::Kind;
@@ -28,6 +27,11 @@ const BLOCK: usize = 512;
 const SLOT_SIZE: usize = 39;
 
 const SLOTS: usize = 13;
+
+// The volume directory is blocks 2, 3, 4, 5. Its header is slot 1 of block 2.
+const VOLUME_BLOCK: u16 = 2;
+
+const VOLUME_LENGTH: u16 = 4;
 
 const VOLUME_HEADER: usize = 1028;
 
@@ -302,9 +306,12 @@ fn follow(img: &[u8], n: usize, path: &[u8], from: Cursor) -> Looked
     ensures { λ r. ⌜ r ≡ lookedAs (view (now (img .entry))) (along (view (now (img .entry))) (view (now (path .entry))) volume (partsLeft (view (now (path .entry))) (length (now (path .entry))) (from .at))) ⌝ }
 {
     let mut home = Home {
-        place: Place { block: 2, slot: 1 },
-        key: 2,
-        used: 4,
+        place: Place {
+            block: VOLUME_BLOCK,
+            slot: 1,
+        },
+        key: VOLUME_BLOCK,
+        used: VOLUME_LENGTH,
     };
     let mut cursor = from;
     loop {

@@ -1,26 +1,18 @@
-use Rattle.directory.proofs.LookupLaws.{stepped-within}
-use Rattle.directory.specs.Search.{listed, foundIn}
-use Rattle.directory.proofs.LookupLaws.{no-end, no-bad}
-use borrow.Author.Needs.{needs}
+-- `directory::follow` meets its contract: the loop's invariant: the names from the cursor on, from `home` on, decide. Assumes nothing.
 use mathlib.Core.Path.{_≡_, refl, sym, ap, _∙_}
-use native.Mathlib.Omega.{arith}
-use Prim.Native.Nat.{_+_, _-_, _<_}
+use Prim.Native.Nat.{_-_, _<_}
 use lib.ListN.{length}
+use native.Mathlib.Omega.{arith}
+use borrow.Author.Needs.{needs}
 use Rattle.model.specs.Bytes.{view}
 use Rattle.model.specs.Directory.{volume, place, field, along}
 use Rattle.names.specs.Steps.{partsLeft}
-use Rattle.names.proofs.CursorLaws.{Stepped, step-found, stepped-bounds, left-name}
-use Rattle.directory.specs.Lookup.{top, lookedAs}
-use Rattle.directory.proofs.LookupLaws.{Walking, walking-searchable, turn-last, turn-stops, turn-on}
+use Rattle.names.proofs.CursorLaws.{Stepped, step-found, stepped-bounds}
+use Rattle.directory.specs.Search.{listed, foundIn}
+use Rattle.directory.specs.Lookup.{top}
+use Rattle.directory.proofs.LookupLaws.{stepped-within, no-end, no-bad, Walking, walking-searchable, turn-last, turn-stops, turn-on}
 use Rattle.directory.proofs.follow.Statement.{statement}
 use Rattle.directory.proofs.follow.Tie as tie
-use Rattle.directory.proofs.follow.Reads as reads
-use Rattle.directory.proofs.follow.Lts as lts
-use Rattle.directory.proofs.find_in.Reads as find-in-reads
-use Rattle.directory.proofs.inner_of.Reads as inner-of-reads
-use Rattle.directory.proofs.last_of.Reads as last-of-reads
-use Rattle.names.proofs.Cursor.step.Reads as step-reads
-use Rattle.names.proofs.name_at.Reads as name-at-reads
 
 abbrev Inv-loop : tie.InvT-loop
 Inv-loop img n path home₀ cursor₀ home cursor =
@@ -29,42 +21,33 @@ Inv-loop img n path home₀ cursor₀ home cursor =
 abbrev μ-loop : tie.MeasureT-loop
 μ-loop img n path home₀ cursor₀ home cursor = length path - cursor .at
 
--- src/lib.rt:309:5
 loop-holds : tie.Need-loop-holds Inv-loop μ-loop
 unfolding place field
 loop-holds c = record { reached = top; known = refl; before = c .before .before .pre .1 .0; proper = c .before .before .pre .1 .1; same = refl }
 
--- src/lib.rt:310:15
 step-requires : tie.Need-step-requires Inv-loop μ-loop
 step-requires c κs = search needs
 
--- src/lib.rt:311:26
 enum-known-start : tie.Need-enum-known-start Inv-loop μ-loop
 enum-known-start c = search needs
 
--- src/lib.rt:312:27
 cast-key : tie.Need-cast-key Inv-loop μ-loop
 cast-key c = search needs
 
--- src/lib.rt:313:28
 cast-used : tie.Need-cast-used Inv-loop μ-loop
 cast-used c = search needs
 
--- src/lib.rt:314:21
 name-at-requires : tie.Need-name-at-requires Inv-loop μ-loop
 name-at-requires c κs = stepped-within _ _ _ _ _ _ (step-found _ _ _ _ _ _ (sym (c .before .before .before .before .before .step .ensures) ∙ c .before .before .before .start .given .1))
 
--- src/lib.rt:315:21
 find-in-requires : tie.Need-find-in-requires Inv-loop μ-loop
 find-in-requires c κs =
     let a = c .before .before .before .before .before .before .before .before .before .before in
     (a .pre .0 .0, a .pre .0 .1, walking-searchable _ _ _ _ _ _ (a .pre .0 .2) (c .before .before .before .before .before .before .before .loop .inv))
 
--- src/lib.rt:317:21
 last-of-requires : tie.Need-last-of-requires Inv-loop μ-loop
 last-of-requires c κs = search needs
 
--- src/lib.rt:317:21
 returns : tie.Need-returns Inv-loop μ-loop
 returns c =
     let a = c .before .before .before .before .before .before .before .before .before .before .before .before .before in
@@ -76,19 +59,15 @@ returns c =
     let f = c .before .before .find-in .ensures ∙ ap (λ y. foundIn v y (listed v (l .home .key) (l .home .used))) (c .before .before .before .name-at .ensures) in
     c .last-of .ensures ∙ sym (turn-last _ v xs _ (l .home) _ (a .pre .0 .2) (l .inv) _ _ _ w _ f (c .before .if1 .taken))
 
--- src/lib.rt:319:47
 inner-of-requires : tie.Need-inner-of-requires Inv-loop μ-loop
 inner-of-requires c κs = search needs
 
--- src/lib.rt:319:38
 enum-known-inner : tie.Need-enum-known-inner Inv-loop μ-loop
 enum-known-inner c = search needs
 
--- src/lib.rt:320:21
 enum-told : tie.Need-enum-told Inv-loop μ-loop
 enum-told c = search needs
 
--- src/lib.rt:320:21
 returns-2 : tie.Need-returns-2 Inv-loop μ-loop
 returns-2 c =
     let a = c .before .before .before .before .before .before .before .before .before .before .before .before .before .before .before in
@@ -102,7 +81,6 @@ returns-2 c =
     let m : g .1 .0 < length xs = omega (arith, c .before .before .before .if1 .left) in
     sym (turn-stops _ v xs _ (l .home) _ (a .pre .0 .2) (l .inv) _ _ _ w m _ f (sym (c .before .before .inner-of .ensures) ∙ c .enum-told .given .1))
 
--- src/lib.rt:309:5
 loop-less : tie.Need-loop-less Inv-loop μ-loop
 loop-less c =
     let xs = c .before .before .before .before .before .before .before .before .before .before .before .before .before .before .before .before .args .path .now in
@@ -113,7 +91,6 @@ loop-less c =
     let t : g .1 .1 .0 .at ≡ g .1 .0 = w .next in
     omega (arith, l .inv .before)
 
--- src/lib.rt:309:5
 loop-again : tie.Need-loop-again Inv-loop μ-loop
 loop-again c =
     let a = c .before .before .before .before .before .before .before .before .before .before .before .before .before .before .before .before in
@@ -127,21 +104,17 @@ loop-again c =
     let m : g .1 .0 < length xs = omega (arith, c .before .before .before .before .if1 .left) in
     rw (w .next) (turn-on _ v xs _ (l .home) _ (a .pre .0 .2) (l .inv) _ _ _ w m _ _ f (sym (c .before .before .before .inner-of .ensures) ∙ c .before .inner .given .1))
 
--- src/lib.rt:327:17
 enum-told-2 : tie.Need-enum-told-2 Inv-loop μ-loop
 enum-told-2 c = search needs
 
--- src/lib.rt:327:17
 returns-3 : tie.Need-returns-3 Inv-loop μ-loop
 returns-3 c =
     let l = c .before .before .before .loop in
     no-end (c .before .before .before .before .before .before .args .path .now) (l .cursor .at) (l .inv .before) (l .inv .proper) (sym (c .before .before .step .ensures) ∙ c .enum-told2 .given .1)
 
--- src/lib.rt:330:17
 enum-told-3 : tie.Need-enum-told-3 Inv-loop μ-loop
 enum-told-3 c = search needs
 
--- src/lib.rt:330:17
 returns-4 : tie.Need-returns-4 Inv-loop μ-loop
 returns-4 c =
     let l = c .before .before .before .loop in

@@ -1,64 +1,46 @@
-use borrow.Author.Tests.{not-true, not-false}
-use mathlib.Core.Path.{_≡_, sym, ap, _∙_}
-use mathlib.Core.Bool.{true, false}
-use native.Mathlib.Omega.{arith}
+-- `directory::lookup` meets its contract: the first name against the volume's header, and the names after it. Assumes nothing.
+use mathlib.Core.Path.{sym, ap, _∙_}
 use Prim.Native.Nat.{_-_, _<_}
 use lib.ListN.{length}
+use native.Mathlib.Omega.{arith}
+use borrow.Author.Tests.{not-true, not-false}
+use borrow.Author.Needs.{needs}
 use Rattle.model.specs.Bytes.{view}
-use Rattle.model.specs.Names.{part, sameName}
 use Rattle.model.specs.Directory.{at, volume, along}
 use Rattle.names.specs.Steps.{stepAt, partsLeft}
 use Rattle.names.proofs.CursorLaws.{Stepped, step-found, stepped-bounds, stepped-proper}
 use Rattle.directory.specs.Lookup.{lookedAs}
 use Rattle.directory.proofs.LookupLaws.{sane-blocks, path-before, path-proper, stepped-within, header-same, lookup-other, lookup-names, lookup-volume, no-end, no-bad}
-use borrow.Author.Needs.{needs}
 use Rattle.directory.proofs.lookup.Statement.{statement}
 use Rattle.directory.proofs.lookup.Tie as tie
-use Rattle.directory.proofs.lookup.Reads as reads
-use Rattle.directory.proofs.lookup.Lts as lts
-use Rattle.directory.proofs.follow.Reads as follow-reads
-use Rattle.names.proofs.Cursor.new.Reads as new-reads
-use Rattle.names.proofs.Cursor.step.Reads as step-reads
-use Rattle.names.proofs.name_at.Reads as name-at-reads
-use Rattle.names.proofs.same_name.Reads as same-name-reads
 
--- src/lib.rt:343:11
 new-requires : tie.Need-new-requires
 new-requires c κs = search needs
 
--- src/lib.rt:343:11
 step-requires : tie.Need-step-requires
 step-requires c κs = search needs
 
--- src/lib.rt:344:22
 enum-known-start : tie.Need-enum-known-start
 enum-known-start c = search needs
 
--- src/lib.rt:345:17
 name-at-requires : tie.Need-name-at-requires
 name-at-requires c κs = stepped-within _ _ _ _ _ _ (step-found _ _ _ _ _ _ (sym (c .before .before .before .step .ensures) ∙ c .before .start .given .1))
 
--- src/lib.rt:346:54
 add-same-name : tie.Need-add-same-name
 add-same-name c = search needs
 
--- src/lib.rt:346:34
 sub-same-name : tie.Need-sub-same-name
 sub-same-name c = search needs
 
--- src/lib.rt:346:34
 part-same-name-start : tie.Need-part-same-name-start
 part-same-name-start c = search needs
 
--- src/lib.rt:346:34
 part-same-name-end : tie.Need-part-same-name-end
 part-same-name-end c = let a = c .before .before .before .before .before .before .before .before in omega (arith, sane-blocks (a .args .n) (view (a .args .img .now)) (a .pre .0 .2))
 
--- src/lib.rt:346:17
 same-name-requires : tie.Need-same-name-requires
 same-name-requires c κs = search needs
 
--- src/lib.rt:347:17
 returns : tie.Need-returns
 returns c =
     let a = c .before .before .before .before .before .before .before .before .before .before .before .args in
@@ -69,7 +51,6 @@ returns c =
     let m = sym (header-same (a .img .now) xs _ _ _ w _ (c .before .before .before .name-at .ensures)) ∙ sym (c .before .same-name .ensures) ∙ not-true _ (c .if1 .taken) in
     sym (ap (lookedAs (view (a .img .now))) (lookup-other (a .img .now) xs _ _ _ w m))
 
--- src/lib.rt:350:17
 returns-2 : tie.Need-returns-2
 returns-2 c =
     let a = c .before .before .before .before .before .before .before .before .before .before .before .before .args in
@@ -80,7 +61,6 @@ returns-2 c =
     let m = sym (header-same (a .img .now) xs _ _ _ w _ (c .before .before .before .before .name-at .ensures)) ∙ sym (c .before .before .same-name .ensures) ∙ not-false _ (c .before .if1 .left) in
     sym (lookup-volume (a .img .now) xs _ _ _ w m (c .if2 .taken))
 
--- src/lib.rt:352:13
 follow-requires : tie.Need-follow-requires
 follow-requires c κs =
     let a = c .before .before .before .before .before .before .before .before .before .before .before .before in
@@ -92,15 +72,12 @@ follow-requires c κs =
     let m : g .1 .0 < length xs = omega (arith, c .if2 .left) in
     (a .pre .0, rw (w .next) (m, sym (stepped-proper _ _ _ _ _ _ w) ∙ path-proper xs (a .pre .1)))
 
--- src/lib.rt:355:22
 enum-told : tie.Need-enum-told
 enum-told c = search needs
 
--- src/lib.rt:356:22
 enum-told-2 : tie.Need-enum-told-2
 enum-told-2 c = search needs
 
--- src/lib.rt:338:1
 returns-3 : tie.Need-returns-3
 returns-3 c =
     let a = c .before .before .before .before .before .before .before .before .before .before .before .before .before .args in
@@ -114,7 +91,6 @@ returns-3 c =
     ∙ ap (λ k. lookedAs v (along v (view xs) volume (partsLeft (view xs) (length xs) k))) (w .next)
     ∙ sym (ap (lookedAs v) (lookup-names (a .img .now) xs _ _ _ w m))
 
--- src/lib.rt:338:1
 returns-4 : tie.Need-returns-4
 returns-4 c =
     let a = c .before .before .before .before .before .before in
@@ -122,7 +98,6 @@ returns-4 c =
     let o = ap (λ x. stepAt (view xs) (length xs) (x .at)) (c .before .before .before .new .ensures) in
     no-end xs 0 (path-before xs (a .pre .1)) (path-proper xs (a .pre .1)) (sym (c .before .before .step .ensures ∙ o) ∙ c .enum-told .given .1)
 
--- src/lib.rt:338:1
 returns-5 : tie.Need-returns-5
 returns-5 c =
     let a = c .before .before .before .before .before .before in
