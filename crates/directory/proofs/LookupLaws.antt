@@ -5,17 +5,13 @@ use mathlib.Core.List.{List, [], _∷_, List·Memᴰ, List·Memᴰ·head, List·
 use mathlib.Core.Option.{Option, none, some}
 use Prim.Native.Nat.{ℕ, zero, suc, _+_, _-_, _≤_, _<_}
 use lib.ListN.{length, take, drop}
-use lib.Dec.{eqb}
 use native.Mathlib.Omega.{arith}
 use borrow.Author.Tests.{ne-eqb}
 use Rattle.model.specs.Bytes.{Bytes, view, _and_}
 use Rattle.model.specs.Names.{Part, part, sameName, properParts, parts, properPath}
-use Rattle.model.specs.Directory.{place, at, volume, Sort, inactive, directory, improper, file, sort, isActive, isDirectory, field, key, used, chain, slots, slotsBelow, kids, seek, Target, noVolume, noDirectory, missing, there, last, along, lookup}
-use Rattle.model.specs.declared.Kind.{Kind}
-use Rattle.model.specs.declared.Entry.{Entry}
+use Rattle.model.specs.Directory.{place, at, volume, Sort, inactive, directory, improper, file, sort, isActive, isDirectory, field, key, used, chain, slotsBelow, kids, seek, Target, noVolume, noDirectory, last, along, lookup}
 use Rattle.model.specs.declared.Place.{Place}
 use Rattle.model.specs.declared.Found.{Found}
-use Rattle.model.specs.declared.Found.the-variants as found
 use Rattle.names.specs.declared.Cursor.{Cursor}
 use Rattle.names.specs.Steps.{partsLeft, stepAt, stepEnd}
 use Rattle.names.specs.declared.Step.{Step}

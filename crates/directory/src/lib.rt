@@ -3,12 +3,13 @@
 ghost use mathlib.Core.Path.{_≡_};
 ghost use mathlib.Core.Bool.{true};
 ghost use mathlib.Core.List.{[], _∷_};
-ghost use Prim.Native.Nat.{_+_, _-_, _*_, _≤_, _<_};
+ghost use Prim.Native.Nat.{_+_, _*_, _≤_, _<_};
 ghost use lib.ListN.{length};
 ghost use Rattle.model.specs.Bytes.{view, word, long};
-ghost use Rattle.model.specs.Names.{parts, properParts, properPath};
+ghost use Rattle.model.specs.Names.{properParts, properPath};
 ghost use Rattle.model.specs.Kinds.{kindFor};
-ghost use Rattle.model.specs.Directory.{at, volume, sort, vacant, along, lookup};
+ghost use Rattle.model.specs.Directory.{at, volume, sort, vacant, along};
+ghost use Rattle.model.specs.Calls.{target};
 ghost use Rattle.model.specs.Info.{stampAt};
 ghost use Rattle.directory.specs.Slots.{placeNumber, Counted, entryWith, entryOf, slotSays, decoded};
 ghost use Rattle.directory.specs.Search.{Each, Readable, Searchable, slotsFrom, listed, foundIn, vacancyAt};
@@ -345,7 +346,7 @@ fn follow(img: &[u8], n: usize, path: &[u8], from: Cursor) -> Looked
 pub fn lookup(img: &[u8], n: usize, path: &[u8]) -> Looked
     requires { ⌜ (n ≤ 65535) × (length (now img) ≡ n * 512) × Sane n (view (now img)) ⌝ }
     requires { ⌜ properPath (view (now path)) (length (now path)) ≡ true ⌝ }
-    ensures { λ r. ⌜ r ≡ lookedAs (view (now (img .entry))) (lookup (view (now (img .entry))) (view (now (path .entry))) (parts (view (now (path .entry))) (length (now (path .entry))))) ⌝ }
+    ensures { λ r. ⌜ r ≡ lookedAs (view (now (img .entry))) (target (view (now (img .entry))) (view (now (path .entry))) (length (now (path .entry)))) ⌝ }
 {
     match Cursor::new().step(path) {
         Step::Name { start, end, next } => {
