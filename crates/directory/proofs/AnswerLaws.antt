@@ -23,12 +23,9 @@ use Rattle.directory.specs.declared.Home.{Home}
 use Rattle.directory.specs.declared.Vacancy.the-variants as vacancy
 use Rattle.directory.specs.declared.Looked.{Looked}
 use Rattle.directory.specs.declared.Looked.the-variants as looked
-use Rattle.directory.proofs.SlotLaws.{place-number}
+use Rattle.directory.proofs.SlotLaws.{never, place-number}
 use Rattle.directory.proofs.SearchLaws.{vacant-here, vacant-past}
 use Rattle.directory.proofs.LookupLaws.{seek-some, reached-kids, sane-blocks}
-
-never : {A : Type 0} → _≡_ {A = ℕ} 0 1 → A
-never z = absurd (let w : ⊥ = omega arith in w)
 
 -- A place that stands for a slot.
 pub place-counted : (s : ℕ) (l : Place) → placeOf s ≡ l → Counted l

@@ -25,11 +25,8 @@ use Rattle.directory.specs.Lookup.{Reached, top, below, Sane, homeOf, lo
 use Rattle.directory.specs.declared.Home.{Home}
 use Rattle.directory.specs.declared.Inner.the-variants as inner
 use Rattle.directory.specs.declared.Looked.the-variants as looked
-use Rattle.directory.proofs.SlotLaws.{place-number, entry-kind, entry-used, slot-named}
+use Rattle.directory.proofs.SlotLaws.{never, place-number, entry-kind, entry-used, slot-named}
 use Rattle.directory.proofs.SearchLaws.{seek-here, seek-past}
-
-never : {A : Type 0} → _≡_ {A = ℕ} 0 1 → A
-never z = absurd (let w : ⊥ = omega arith in w)
 
 -- A slot that a search has found is one of those searched, and active.
 module _ (v p : Bytes) (x : Part) where

@@ -17,10 +17,7 @@ use Rattle.directory.specs.Slots.{placeNumber, placeOf, Counted, entryOf
 use Rattle.directory.specs.declared.Slot.the-variants.{Active}
 use Rattle.directory.specs.Search.{Each, Readable, Searchable, slotsFrom, foundAt, vacancyAt}
 use Rattle.directory.specs.declared.Vacancy.the-variants as vacancy
-use Rattle.directory.proofs.SlotLaws.{place-one, place-two, place-next, place-of, says-active}
-
-never : {A : Type 0} → _≡_ {A = ℕ} 0 1 → A
-never z = absurd (let w : ⊥ = omega arith in w)
+use Rattle.directory.proofs.SlotLaws.{never, place-one, place-two, place-next, place-of, says-active}
 
 -- What holds of every number in a list.
 module _ (P : ℕ → Type 0) where
