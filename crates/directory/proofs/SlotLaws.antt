@@ -1,6 +1,6 @@
 -- A slot that is lent as its 39 bytes says what stands in the image at its place. Assumes nothing.
 use mathlib.Core.Path.{_≡_, refl, sym, ap, _∙_}
-use mathlib.Core.Bool.{Bool, true, false}
+use mathlib.Core.Bool.{true, false}
 use mathlib.Core.List.{List}
 use Prim.Native.Nat.{ℕ, zero, suc, _+_, _-_, _*_, _/_, _%_, _≤_, _<_}
 use lib.ListN.{take, drop}
@@ -18,6 +18,10 @@ use Rattle.model.proofs.ByteLaws.{Agree, agree-part, word-agree, word-from, lon
 use Rattle.names.proofs.PartLaws.{slot-same, part-run}
 use Rattle.directory.specs.Slots.{placeNumber, placeOf, Counted, kindOf, entryWith, entryOf, slotSays, decoded}
 use Rattle.directory.specs.declared.Slot.the-variants.{Inactive, Improper, Active}
+
+-- where two unlike constructors are equal, cc finds this, and all follows
+pub never : {A : Type 0} → _≡_ {A = ℕ} 0 1 → A
+never z = absurd (let w : ⊥ = omega arith in w)
 
 -- Places.
 pub place-one : (b : ℕ) → place b 1 ≡ b * 13
@@ -150,9 +154,6 @@ module _ (xs : List ℕ) (a k s : ℕ) (start : a ≡ at s) (size : k ≡ 39) wh
   slot-named p x = rw (start, size) (slot-same (view (take 39 (drop (at s) xs))) (view xs) (at s) (part-run xs (at s) 39) p x)
 
 -- What the answer of the decoder says of the sort.
-never : {A : Type 0} → _≡_ {A = ℕ} 0 1 → A
-never z = absurd (let w : ⊥ = omega arith in w)
-
 pub says-active : (t : Sort) (e f : Entry) → slotSays t e ≡ Active f → (isActive t ≡ true) × (e ≡ f)
 says-active inactive e f h = never (cc)
 says-active improper e f h = never (cc)
