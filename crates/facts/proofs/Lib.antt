@@ -1,0 +1,3 @@
+pub mod MetLaws
+pub mod BlockLaws
+pub mod LookupLaws
