@@ -1,11 +1,12 @@
 // The blocks and bytes of a data file: the data block of a file block, and a run of bytes read with holes as zero.
 // A file has a height (0 seedling, 1 sapling, 2 tree) and a key. Document 01, "The volume on disk".
 ghost use mathlib.Core.Path.{_≡_};
-ghost use Prim.Native.Nat.{ℕ, _+_, _-_, _*_, _≤_, _<_};
+ghost use Prim.Native.Nat.{ℕ, _+_, _-_, _*_, _/_, _≤_, _<_};
 ghost use lib.ListN.{length};
 ghost use Rattle.model.specs.Bytes.{view, paste, from};
 ghost use Rattle.model.specs.File.{pointer, dataBlock, fileByte};
-ghost use Rattle.file.specs.Inside.{Deep, runIn};
+ghost use Rattle.facts.specs.Reached.{Deep};
+ghost use Rattle.file.specs.Runs.{runIn};
 
 // The data block of file block p below an index, 0 for a hole.
 fn block_in_index(img: &[u8], n: usize, key: usize, p: usize) -> usize
