@@ -35,39 +35,67 @@ module _ (v : Bytes) (n k p : ℕ) where
   unfolding dataBlock above
   in-master e = rw (ne-eqb (pointer v k (p / 256 % 256)) 0 e, dataBlock) refl
 
+-- the byte at an offset of a data block, which is a hole where the block is 0
+abbrev byteIn : Bytes → ℕ → ℕ → ℕ
+byteIn v b o = elim (eqb b 0) [ true ↦ 0 | false ↦ v (b * 512 + o) ]
+
 -- a run of the file inside one block
-run-here : (v : Bytes) (h k at r : ℕ) → at % 512 + r ≤ 512 → Agree r (runIn v (dataBlock v h k (at / 512)) (at % 512)) (from (fileByte v h k) at)
+run-here : (v : Bytes) (h k at r : ℕ) → at % 512 + r ≤ 512
+    → Agree r (runIn v (dataBlock v h k (at / 512)) (at % 512)) (from (fileByte v h k) at)
 unfolding runIn fileByte
 run-here v h k at r f i l =
-    let q : (at + i) / 512 ≡ at / 512 = omega arith in
-    let o : (at + i) % 512 ≡ at % 512 + i = omega arith in
-    let b : dataBlock v h k (at / 512) * 512 + at % 512 + i ≡ dataBlock v h k (at / 512) * 512 + (at % 512 + i) = omega arith in
-    rw (q, o, b) refl
+    let b = dataBlock v h k (at / 512) in
+    let s : b * 512 + at % 512 + i ≡ b * 512 + (at % 512 + i) = omega arith in
+    let q : at / 512 ≡ (at + i) / 512 = omega arith in
+    let o : at % 512 + i ≡ (at + i) % 512 = omega arith in
+    ap (λ a. elim (eqb b 0) [ true ↦ 0 | false ↦ v a ]) s
+    ∙ ap (λ p. byteIn v (dataBlock v h k p) (at % 512 + i)) q
+    ∙ ap (byteIn v (dataBlock v h k ((at + i) / 512))) o
 
 -- a paste goes on where it ended
-pub paste-on : (f : Bytes) (d r : ℕ) (g : Bytes) → paste (paste f 0 d g) d r (from g d) ≡ paste f 0 (d + r) g
-paste-on f d r g = paste-by _ f 0 (d + r) g inner outer
+paste-on : (f : Bytes) (d r : ℕ) (g : Bytes) → paste (paste f 0 d g) d r (from g d) ≡ paste f 0 (d + r) g
+paste-on f d r g = paste-by _ f 0 (d + r) g inside outside
   where
-    inner : (i : ℕ) → i < d + r → paste (paste f 0 d g) d r (from g d) (0 + i) ≡ g i
-    inner i h = in-or-out d r (0 + i)
-        (λ a b. paste-in (paste f 0 d g) d r (from g d) (0 + i) a b ∙ ap g (let e : d + (0 + i - d) ≡ i = omega arith in e))
-        (λ o. paste-out (paste f 0 d g) d r (from g d) (0 + i) o ∙ paste-at f 0 d g i (omega (arith, o)))
-    outer : (i : ℕ) → (0 ≤ i → i < 0 + (d + r) → ⊥) → paste (paste f 0 d g) d r (from g d) i ≡ f i
-    outer i o = paste-out (paste f 0 d g) d r (from g d) i (λ a b. o (omega arith) (omega arith)) ∙ paste-out f 0 d g i (λ a b. o (omega arith) (omega arith))
+    both : Bytes
+    both = paste (paste f 0 d g) d r (from g d)
+
+    early : (i : ℕ) → i < d → both (0 + i) ≡ g i
+    early i h = paste-out (paste f 0 d g) d r (from g d) (0 + i) (λ u w. omega arith) ∙ paste-at f 0 d g i h
+
+    late : (i : ℕ) → d ≤ i → i < d + r → both (0 + i) ≡ g i
+    late i h l =
+        let e : d + (0 + i - d) ≡ i = omega arith in
+        paste-in (paste f 0 d g) d r (from g d) (0 + i) (omega arith) (omega arith) ∙ ap g e
+
+    over : (i : ℕ) → (0 ≤ i → i < 0 + d → ⊥) → d ≤ i
+    over i o = omega (arith, o (omega arith))
+
+    inside : (i : ℕ) → i < d + r → both (0 + i) ≡ g i
+    inside i h = in-or-out 0 d i (λ u w. early i (omega arith)) (λ o. late i (over i o) h)
+
+    outside : (i : ℕ) → (0 ≤ i → i < 0 + (d + r) → ⊥) → both i ≡ f i
+    outside i o =
+        paste-out (paste f 0 d g) d r (from g d) i (λ u w. o (omega arith) (omega arith))
+        ∙ paste-out f 0 d g i (λ u w. o (omega arith) (omega arith))
 
 pub run-on : (f v : Bytes) (h k position d r : ℕ) → (position + d) % 512 + r ≤ 512
     → paste (paste f 0 d (from (fileByte v h k) position)) d r (runIn v (dataBlock v h k ((position + d) / 512)) ((position + d) % 512))
     ≡ paste f 0 (d + r) (from (fileByte v h k) position)
 run-on f v h k position d r l =
-    paste-cong (paste f 0 d (from (fileByte v h k) position)) d r _ (from (from (fileByte v h k) position) d)
-        (λ i b. run-here v h k (position + d) r l i b ∙ ap (fileByte v h k) (let e : position + d + i ≡ position + (d + i) = omega arith in e))
+    paste-cong (paste f 0 d (from (fileByte v h k) position)) d r _ (from (from (fileByte v h k) position) d) here
     ∙ paste-on f d r (from (fileByte v h k) position)
+  where
+    here : Agree r (runIn v (dataBlock v h k ((position + d) / 512)) ((position + d) % 512)) (from (from (fileByte v h k) position) d)
+    here i b =
+        let e : position + d + i ≡ position + (d + i) = omega arith in
+        run-here v h k (position + d) r l i b ∙ ap (fileByte v h k) e
 
 -- a hole and a block
-pub hole-run : (f v : Bytes) (to k offset : ℕ) (b : ℕ) → b ≡ 0 → clear f to k ≡ paste f to k (runIn v b offset)
-unfolding clear runIn
-hole-run f v to k offset b e = paste-cong f to k zeros _ (λ i l. rw (eq-eqb b 0 e) refl)
+module _ (f v : Bytes) (to k offset b : ℕ) where
+  pub hole-run : b ≡ 0 → clear f to k ≡ paste f to k (runIn v b offset)
+  unfolding clear runIn
+  hole-run e = paste-cong f to k zeros _ (λ i l. rw (eq-eqb b 0 e, runIn) refl)
 
-pub block-run : (f v : Bytes) (to k offset : ℕ) (b : ℕ) → (b ≡ 0 → ⊥) → paste f to k (from v (b * 512 + offset)) ≡ paste f to k (runIn v b offset)
-unfolding runIn
-block-run f v to k offset b e = paste-cong f to k _ _ (λ i l. rw (ne-eqb b 0 e) refl)
+  pub block-run : (b ≡ 0 → ⊥) → paste f to k (from v (b * 512 + offset)) ≡ paste f to k (runIn v b offset)
+  unfolding runIn
+  block-run e = paste-cong f to k _ _ (λ i l. rw (ne-eqb b 0 e, runIn) refl)

@@ -1,7 +1,7 @@
 // The blocks and bytes of a data file: the data block of a file block, and a run of bytes read with holes as zero.
 // A file has a height (0 seedling, 1 sapling, 2 tree) and a key. Document 01, "The volume on disk".
 ghost use mathlib.Core.Path.{_≡_};
-ghost use Prim.Native.Nat.{ℕ, _+_, _-_, _*_, _/_, _≤_, _<_};
+ghost use Prim.Native.Nat.{ℕ, _+_, _*_, _%_, _≤_, _<_};
 ghost use lib.ListN.{length};
 ghost use Rattle.model.specs.Bytes.{view, paste, from};
 ghost use Rattle.model.specs.File.{pointer, dataBlock, fileByte};
@@ -54,7 +54,7 @@ fn read_run(buffer: &mut [u8], to: usize, img: &[u8], block: usize, offset: usiz
 
 // How many of the bytes that are left lie in the block of a position.
 fn run_length(position: usize, left: usize) -> usize
-    ensures { λ r. ⌜ (r ≤ left) × (position - position / 512 * 512 + r ≤ 512) × (0 < left → 0 < r) ⌝ }
+    ensures { λ r. ⌜ (r ≤ left) × (position % 512 + r ≤ 512) × (0 < left → 0 < r) ⌝ }
 {
     let room = 512 - position % 512;
     if left < room { left } else { room }

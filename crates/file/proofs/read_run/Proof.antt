@@ -1,42 +1,41 @@
+-- `file::read_run` meets its contract: zeros for a hole, otherwise the bytes of the block. Assumes nothing.
+use mathlib.Core.Path.{_∙_}
+use native.Mathlib.Omega.{arith}
 use borrow.Author.Needs.{needs}
+use Rattle.model.specs.Bytes.{view}
+use Rattle.file.proofs.Laws.{hole-run, block-run}
 use Rattle.file.proofs.read_run.Statement.{statement}
 use Rattle.file.proofs.read_run.Tie as tie
-use Rattle.file.proofs.read_run.Reads as reads
-use Rattle.file.proofs.read_run.Lts as lts
-use Rattle.store.proofs.clear_run.Reads as clear-run-reads
-use Rattle.store.proofs.copy_run.Reads as copy-run-reads
 
--- src/lib.rt:49:9
 clear-run-requires : tie.Need-clear-run-requires
-clear-run-requires c κs = ?
+clear-run-requires c κs = search needs
 
--- src/lib.rt:50:9
 same-length : tie.Need-same-length
-same-length c = ?
+same-length c = search needs
 
--- src/lib.rt:50:9
 returns : tie.Need-returns
-returns c = ?
+returns c =
+    let a = c .before .before .before .before .before .before .before .args in
+    c .before .before .clear-run .ensures
+    ∙ hole-run (view (a .buffer .now)) (view (a .img .now)) (a .to) (a .k) (a .offset) (a .block) (omega arith)
 
--- src/lib.rt:52:38
 mul-copy-run : tie.Need-mul-copy-run
-mul-copy-run c = ?
+mul-copy-run c = search needs
 
--- src/lib.rt:52:38
 add-copy-run : tie.Need-add-copy-run
-add-copy-run c = ?
+add-copy-run c = search needs
 
--- src/lib.rt:52:5
 copy-run-requires : tie.Need-copy-run-requires
-copy-run-requires c κs = ?
+copy-run-requires c κs = search needs
 
--- src/lib.rt:44:1
 same-length-2 : tie.Need-same-length-2
-same-length-2 c = ?
+same-length-2 c = search needs
 
--- src/lib.rt:44:1
 returns-2 : tie.Need-returns-2
-returns-2 c = ?
+returns-2 c =
+    let a = c .before .before .before .before .before .before .before .args in
+    c .before .before .copy-run .ensures
+    ∙ block-run (view (a .buffer .now)) (view (a .img .now)) (a .to) (a .k) (a .offset) (a .block) (λ e. omega arith)
 
 pub read-run-spec : {M : Type 1} → statement M
 read-run-spec =
