@@ -1,5 +1,5 @@
 -- The data block of a file block, height by height, and a run of a file's bytes inside one block.
-use Prim.Native.Nat.{ℕ, zero, suc, _+_, _-_, _*_, _/_, _%_, _≤_, _<_}
+use Prim.Native.Nat.{ℕ, _+_, _-_, _*_, _/_, _%_, _≤_, _<_}
 use mathlib.Core.Path.{_≡_, refl, sym, ap, _∙_}
 use mathlib.Core.Bool.{Bool, true, false}
 use lib.Dec.{eqb}
@@ -11,7 +11,7 @@ use Rattle.model.proofs.ByteLaws.{Agree, paste-cong, paste-in, paste-out, paste
 use Rattle.facts.specs.Reached.{Deep}
 use Rattle.file.specs.Runs.{runIn}
 
-module _ (v : Bytes) (n k p : ℕ) where
+module _ (v : Bytes) (k p : ℕ) where
   pub in-index : dataBlock v 1 k p ≡ pointer v k (p % 256)
   unfolding dataBlock above
   in-index = go (eqb (pointer v k (p % 256)) 0) refl
@@ -20,8 +20,8 @@ module _ (v : Bytes) (n k p : ℕ) where
       go true e = sym (eqb-true (pointer v k (p % 256)) 0 e)
       go false e = refl
 
-  pub index-inside : Deep n v 1 k → pointer v k (p % 256) < n
-  index-inside d = go (eqb (pointer v k (p % 256)) 0) refl
+  pub index-inside : (n : ℕ) → Deep n v 1 k → pointer v k (p % 256) < n
+  index-inside n d = go (eqb (pointer v k (p % 256)) 0) refl
     where
       go : (b : Bool) → eqb (pointer v k (p % 256)) 0 ≡ b → pointer v k (p % 256) < n
       go true e = let z = eqb-true (pointer v k (p % 256)) 0 e in omega (arith, d .0)

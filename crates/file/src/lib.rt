@@ -61,7 +61,15 @@ fn run_length(position: usize, left: usize) -> usize
 }
 
 // The next count bytes of a file from a position on, to the front of the buffer.
-pub fn read_bytes(img: &[u8], n: usize, height: usize, key: usize, position: usize, buffer: &mut [u8], count: usize)
+pub fn read_bytes(
+    img: &[u8],
+    n: usize,
+    height: usize,
+    key: usize,
+    position: usize,
+    buffer: &mut [u8],
+    count: usize,
+)
     requires { ⌜ (n ≤ 65535) × (length (now img) ≡ n * 512) × (height < 3) × Deep n (view (now img)) height key ⌝ }
     requires { ⌜ (count ≤ length (now buffer)) × (position + count ≤ 16777215) ⌝ }
     ensures { λ _. ⌜ view (now (buffer .exit)) ≡ paste (view (now (buffer .entry))) 0 count (from (fileByte (view (now (img .entry))) height key) position) ⌝ }

@@ -14,7 +14,7 @@ returns c =
     let a = c .before .before .args in
     let e = c .get-pointer .ensures .0 in
     let v = view (a .img .now) in
-    (e ∙ sym (in-index v (a .n) (a .key) (a .p)), rw e (index-inside v (a .n) (a .key) (a .p) (c .before .before .pre .2)))
+    (e ∙ sym (in-index v (a .key) (a .p)), rw e (index-inside v (a .key) (a .p) (a .n) (c .before .before .pre .2)))
 
 pub block-in-index-spec : {M : Type 1} → statement M
 block-in-index-spec = tie.close (tie.spec get-pointer-requires returns)

@@ -16,7 +16,7 @@ returns c =
     let a = c .before .before .before .args in
     let v = view (a .img .now) in
     let e : pointer v (a .key) (a .p / 256 % 256) ≡ 0 = omega (arith, c .before .get-pointer .ensures .0) in
-    (sym (master-hole v (a .n) (a .key) (a .p) e), omega (arith, c .before .before .before .pre .2 .0))
+    (sym (master-hole v (a .key) (a .p) e), omega (arith, c .before .before .before .pre .2 .0))
 
 block-in-index-requires : tie.Need-block-in-index-requires
 block-in-index-requires c κs =
@@ -29,11 +29,10 @@ returns-2 : tie.Need-returns-2
 returns-2 c =
     let a = c .before .before .before .before .args in
     let v = view (a .img .now) in
-    let g = c .before .before .get-pointer .ensures .0 in
-    (
+    let g = c .before .before .get-pointer .ensures .0 in (
       c .block-in-index .ensures .0
           ∙ ap (λ b. dataBlock v 1 b (a .p)) g
-          ∙ sym (in-master v (a .n) (a .key) (a .p) (λ e. omega arith)),
+          ∙ sym (in-master v (a .key) (a .p) (λ e. omega arith)),
       omega arith,
     )
 

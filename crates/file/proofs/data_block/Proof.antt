@@ -1,7 +1,6 @@
 -- `file::data_block` meets its contract, height by height. Assumes nothing.
-use mathlib.Core.Path.{_≡_, refl, sym, ap, _∙_}
+use mathlib.Core.Path.{_≡_, refl}
 use native.Mathlib.Omega.{arith}
-use Rattle.model.specs.Bytes.{view}
 use Rattle.model.specs.File.{dataBlock}
 use Rattle.file.proofs.data_block.Statement.{statement}
 use Rattle.file.proofs.data_block.Tie as tie

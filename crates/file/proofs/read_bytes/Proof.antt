@@ -1,20 +1,16 @@
+-- `file::read_bytes` meets its contract. After each turn the first bytes of the buffer are the file's, as many as are done. Assumes nothing.
 use mathlib.Core.Path.{_≡_, refl, sym, ap, _∙_}
-use Prim.Native.Nat.{_+_, _-_, _*_, _/_, _%_, _≤_}
+use Prim.Native.Nat.{_+_, _-_, _%_, _≤_}
 use native.Mathlib.Omega.{arith}
 use lib.ListN.{length}
 use Rattle.model.specs.Bytes.{view, paste, from}
-use Rattle.model.specs.File.{dataBlock, fileByte}
+use Rattle.model.specs.File.{fileByte}
 use Rattle.model.proofs.ByteLaws.{paste-none}
 use Rattle.file.specs.Runs.{runIn}
 use Rattle.file.proofs.Laws.{run-on}
 use borrow.Author.Needs.{needs}
 use Rattle.file.proofs.read_bytes.Statement.{statement}
 use Rattle.file.proofs.read_bytes.Tie as tie
-use Rattle.file.proofs.read_bytes.Reads as reads
-use Rattle.file.proofs.read_bytes.Lts as lts
-use Rattle.file.proofs.data_block.Reads as data-block-reads
-use Rattle.file.proofs.read_run.Reads as read-run-reads
-use Rattle.file.proofs.run_length.Reads as run-length-reads
 
 abbrev Inv-loop : tie.InvT-loop
 Inv-loop img n height key position buffer₀ count done₀ buffer done =
@@ -23,39 +19,30 @@ Inv-loop img n height key position buffer₀ count done₀ buffer done =
 abbrev μ-loop : tie.MeasureT-loop
 μ-loop img n height key position buffer₀ count done₀ buffer done = count - done
 
--- src/lib.rt:70:5
 loop-holds : tie.Need-loop-holds Inv-loop μ-loop
 loop-holds c = (search needs, refl, sym (paste-none _ _ _))
 
--- src/lib.rt:71:18
 add-at : tie.Need-add-at Inv-loop μ-loop
 add-at c = search needs
 
--- src/lib.rt:72:13
 data-block-requires : tie.Need-data-block-requires Inv-loop μ-loop
 data-block-requires c κs = search needs
 
--- src/lib.rt:73:32
 sub-run-length : tie.Need-sub-run-length Inv-loop μ-loop
 sub-run-length c = search needs
 
--- src/lib.rt:73:13
 run-length-requires : tie.Need-run-length-requires Inv-loop μ-loop
 run-length-requires c κs = search needs
 
--- src/lib.rt:74:9
 read-run-requires : tie.Need-read-run-requires Inv-loop μ-loop
 read-run-requires c κs = search needs
 
--- src/lib.rt:75:9
 add-done : tie.Need-add-done Inv-loop μ-loop
 add-done c = search needs
 
--- src/lib.rt:70:5
 loop-less : tie.Need-loop-less Inv-loop μ-loop
 loop-less c = omega (arith, c .before .before .before .before .run-length .ensures .2 (omega arith))
 
--- src/lib.rt:70:5
 loop-again : tie.Need-loop-again Inv-loop μ-loop
 loop-again c =
     let a = c .before .before .before .before .before .before .before .before .before .before .args in
@@ -72,11 +59,9 @@ loop-again c =
           ∙ run-on (view (a .buffer .now)) v (a .height) (a .key) (a .position) (l .done) r (c .before .before .before .before .run-length .ensures .1),
     )
 
--- src/lib.rt:64:1
 same-length : tie.Need-same-length Inv-loop μ-loop
 same-length c = search needs
 
--- src/lib.rt:64:1
 returns : tie.Need-returns Inv-loop μ-loop
 returns c =
     let a = c .before .before .before .before .args in
