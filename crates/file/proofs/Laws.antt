@@ -1,4 +1,4 @@
--- The data block of a file block, height by height, and a run of a file's bytes inside one block.
+-- The data block of a file block, height by height, and a run of a file's bytes inside one block. Assumes nothing.
 use Prim.Native.Nat.{ℕ, _+_, _-_, _*_, _/_, _%_, _≤_, _<_}
 use mathlib.Core.Path.{_≡_, refl, sym, ap, _∙_}
 use mathlib.Core.Bool.{Bool, true, false}
