@@ -1,2 +1,5 @@
 -- Demand 3: soundness is kept, and files that are not named are untouched.
 pub mod Total
+pub mod Grow
+pub mod Frame
+pub mod Sound
