@@ -3,3 +3,4 @@ pub mod Total
 pub mod Grow
 pub mod Frame
 pub mod Sound
+pub mod Keep
