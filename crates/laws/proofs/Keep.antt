@@ -64,7 +64,7 @@ pub record Keeps (v v′ : Bytes) (s : ℕ) : Type 0 where
   pub head : sort v s ≡ directory → Head v v′ (key v s)
   pub trees : (h : ℕ) → sort v s ≡ file h → (b : ℕ) → 1 ≤ count b (blocks v s) → Alike 512 v v′ b
 
-head-word : (v v′ : Bytes) (k o : ℕ) → Head v v′ k → 4 ≤ o → o < 42 → (36 ≤ o → o < 39 → ⊥) → word v′ (k * 512 + o) ≡ word v (k * 512 + o)
+pub head-word : (v v′ : Bytes) (k o : ℕ) → Head v v′ k → 4 ≤ o → o < 42 → (36 ≤ o → o < 39 → ⊥) → word v′ (k * 512 + o) ≡ word v (k * 512 + o)
 head-word v v′ k o f g l n =
     word-same v′ v (k * 512 + o) (k * 512 + o) (f o g (omega arith) (λ p q. n (omega arith) q))
     (rw (add-assoc (k * 512) o 1) (f (o + 1) (omega arith) (omega arith) (λ p q. n (omega arith) (omega arith))))

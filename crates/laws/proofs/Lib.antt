@@ -4,3 +4,5 @@ pub mod Grow
 pub mod Frame
 pub mod Sound
 pub mod Keep
+pub mod Facts
+pub mod One
