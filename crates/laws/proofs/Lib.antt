@@ -7,3 +7,5 @@ pub mod Keep
 pub mod Facts
 pub mod One
 pub mod Weigh
+pub mod Move
+pub mod Take

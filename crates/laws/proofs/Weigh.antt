@@ -15,7 +15,7 @@ use Rattle.model.proofs.SumLaws.{is-self, sum-eq, sum-gather, sum-map, sum-ones
 use Rattle.laws.proofs.Frame.{Alike, holds, pointer-in}
 
 -- Sums over the numbers below c.
-pub upto : ℕ → (ℕ → ℕ) → ℕ
+unfoldable pub upto : ℕ → (ℕ → ℕ) → ℕ
 upto zero f = 0
 upto (suc c) f = upto c f + f c
 
@@ -92,10 +92,10 @@ abbrev pub Gauge : Type 0
 Gauge = ℕ → ℕ → ℕ → ℕ
 
 -- what lies below pointer i
-pub arm : (ℕ → ℕ → ℕ) → Bytes → ℕ → ℕ → ℕ → ℕ
+unfoldable pub arm : (ℕ → ℕ → ℕ) → Bytes → ℕ → ℕ → ℕ → ℕ
 arm x v q k i = elim (eqb (pointer v k i) 0) [ true ↦ 0 | false ↦ x (q * 256 + i) (pointer v k i) ]
 
-pub weigh : Gauge → Bytes → ℕ → ℕ → ℕ → ℕ
+unfoldable pub weigh : Gauge → Bytes → ℕ → ℕ → ℕ → ℕ
 weigh g v zero q k = g 0 q k
 weigh g v (suc h) q k = g (suc h) q k + upto 256 (arm (λ r p. weigh g v h r p) v q k)
 
