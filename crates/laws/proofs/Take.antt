@@ -12,7 +12,7 @@ use Rattle.model.specs.File.{pointer, putPointer, firstBelow, above, dataBlock}
 use Rattle.model.specs.Grow.{topped, backed}
 use Rattle.model.proofs.ByteLaws.{at-or-off}
 use Rattle.model.proofs.BitLaws.{is-yes, is-no, is-both, taken-octets, rest-taken, same-free, same-rest, lowest-free}
-use Rattle.model.proofs.SumLaws.{is-self}
+use Rattle.model.proofs.SumLaws.{is-self, is-eq}
 use Rattle.laws.proofs.Frame.{Alike, pointer-in}
 use Rattle.laws.proofs.Weigh.{Gauge, weigh, each, tardy, has, size, part, arm-hole, arm-full, part-le, has-key, part-has, part-same, weigh-same, weigh-one, Blank, pointer-blank, weigh-blank, leaves, indexes, has-split, key-index}
 use Rattle.laws.proofs.Move.{by-zero, by-lt, Off, map-alike, pointer-off, pointer-at, pointer-other, octets-pointer, taken-alike, taken-blank, taken-level, Fit, Move, move-none, move-fit, fit-off, fit-some, fit-key, free-off, free-some, free-out, move-then, fit-below, lift, lift-kept, lift-weigh}
@@ -136,28 +136,36 @@ module _ {n : ℕ} {w : Bytes} {h k : ℕ} (F : Fit n w h 0 k) (z : ℕ) (zn : z
         same = λ b l e m. topped-kept b (λ s. omega (arith, rw s at e)) m;
       }
 
--- A tree that grows in place: nodes before the file block e are added, nodes and data bytes stay.
-pub record Work (n e : ℕ) (w : Bytes) (h q k : ℕ) (w′ : Bytes) : Type 0 where
-  pub move : Move n w h q k w′ h q k
-  pub timely : weigh (tardy e) w h q k ≡ 0 → weigh (tardy e) w′ h q k ≡ 0
-  pub grows : (g : Gauge) → weigh g w h q k ≤ weigh g w′ h q k
+-- A tree that grows: nodes before the file block e are added, nodes and data bytes stay, new data blocks are zero.
+pub record Work (n e : ℕ) (w : Bytes) (h q k : ℕ) (w′ : Bytes) (h′ q′ k′ : ℕ) : Type 0 where
+  pub move : Move n w h q k w′ h′ q′ k′
+  pub timely : weigh (tardy e) w h q k ≡ 0 → weigh (tardy e) w′ h′ q′ k′ ≡ 0
+  pub grows : (g : Gauge) → weigh g w h q k ≤ weigh g w′ h′ q′ k′
   pub data-kept : (b : ℕ) → 1 ≤ weigh (leaves b) w h q k → Alike 512 w w′ b
+  pub fresh : (b : ℕ) → 1 ≤ weigh (leaves b) w′ h′ q′ k′ → weigh (leaves b) w h q k ≡ 0 → Blank w′ b
 
-pub work-none : {n : ℕ} {w : Bytes} {h q k : ℕ} (e : ℕ) → Fit n w h q k → Work n e w h q k w
-work-none e F = record { move = move-none F; timely = λ t. t; grows = λ g. omega arith; data-kept = λ b m j l. refl }
+pub work-none : {n : ℕ} {w : Bytes} {h q k : ℕ} (e : ℕ) → Fit n w h q k → Work n e w h q k w h q k
+work-none e F =
+    record { move = move-none F; timely = λ t. t; grows = λ g. omega arith; data-kept = λ b m j l. refl; fresh = λ b m z. absurd (omega arith) }
 
-pub work-then : {n e : ℕ} {w : Bytes} {h q k : ℕ} {w′ w″ : Bytes} → Work n e w h q k w′ → Work n e w′ h q k w″ → Work n e w h q k w″
-work-then A B =
+pub work-then : {n e : ℕ} {w : Bytes} {h q k : ℕ} {w′ : Bytes} {h′ q′ k′ : ℕ} {w″ : Bytes} {h″ q″ k″ : ℕ}
+    → Work n e w h q k w′ h′ q′ k′ → Work n e w′ h′ q′ k′ w″ h″ q″ k″ → Work n e w h q k w″ h″ q″ k″
+work-then {w′ = w′} {h′} {q′} {k′} A B =
     record {
       move = move-then (A .move) (B .move);
       timely = λ t. B .timely (A .timely t);
       grows = λ g. omega (arith, A .grows g, B .grows g);
       data-kept = λ b m j l. B .data-kept b (omega (arith, A .grows (leaves b))) j l ∙ A .data-kept b m j l;
+      fresh = λ b m z. by-zero (weigh (leaves b) w′ h′ q′ k′) (B .fresh b m) (λ y j l. B .data-kept b y j l ∙ A .fresh b y z j l);
     }
+
+new-leaf : (b h s z : ℕ) → 1 ≤ leaves b h s z → b ≡ z
+new-leaf b zero s z m = is-eq b z m
+new-leaf b (suc h) s z m = absurd (omega arith)
 
 -- a block taken before the end
 pub hung-work : {n : ℕ} {w : Bytes} {h q k : ℕ} (e : ℕ) (F : Fit n w (suc h) q k) (i z : ℕ) → i < 256 → pointer w k i ≡ 0 → z < n
-    → free mapPlace w z ≡ 1 → firstBelow h (q * 256 + i) < e → Work n e w (suc h) q k (putPointer (taken mapPlace w z) k i z)
+    → free mapPlace w z ≡ 1 → firstBelow h (q * 256 + i) < e → Work n e w (suc h) q k (putPointer (taken mapPlace w z) k i z) (suc h) q k
 hung-work {w = w} {h} {q} {k} e F i z il hole zn zf l =
     record {
       move = hung-move F i z il hole zn zf;
@@ -167,11 +175,13 @@ hung-work {w = w} {h} {q} {k} e F i z il hole zn zf l =
         let some : 1 ≤ has w (suc h) q k b = omega (arith, has-split w (suc h) q k b) in
         hung-kept F i z il hole zn zf b (free-out F z zn zf b some) (fit-off F b some)
         (λ s. omega (arith, rw s at m, key-index w h q k, has-split w (suc h) q k k, F .apart k (fit-key F)));
+      fresh = λ b m y.
+        rw (new-leaf b h (q * 256 + i) z (omega (arith, hung-weigh F i z il hole zn zf (leaves b)))) (hung-blank F i z il hole zn zf);
     }
 
 -- below a pointer
 pub work-lift : {n : ℕ} {w : Bytes} {h q k i : ℕ} {e : ℕ} {w′ : Bytes} (F : Fit n w (suc h) q k) (il : i < 256) (full : pointer w k i ≡ 0 → ⊥)
-    → Work n e w h (q * 256 + i) (pointer w k i) w′ → Work n e w (suc h) q k w′
+    → Work n e w h (q * 256 + i) (pointer w k i) w′ h (q * 256 + i) (pointer w k i) → Work n e w (suc h) q k w′ (suc h) q k
 work-lift {w = w} {h} {q} {k} {i} {e} F il full A =
     record {
       move = lift F il full (A .move);
@@ -186,6 +196,11 @@ work-lift {w = w} {h} {q} {k} {i} {e} F il full A =
         (λ z. A .data-kept b (omega
         (arith, has-split w h (q * 256 + i) (pointer w k i) b, F .apart b (F .range b some), part-le (indexes b) w h q k i il,
           arm-full (λ r c. weigh (indexes b) w h r c) w q k i full)));
+      fresh = λ b m z.
+        let sum = lift-weigh F il full (A .move) (leaves b) in
+        let below = part-le (leaves b) w h q k i il in
+        let here = arm-full (λ r p. weigh (leaves b) w h r p) w q k i full in
+        A .fresh b (omega arith) (omega arith);
     }
 
 -- Numbers of nodes above a file block.
@@ -200,7 +215,8 @@ first-above zero p = omega arith
 first-above (suc h) p = omega (arith, first-le h (above h p / 256 * 256) (above h p) (omega arith), first-above h p)
 
 -- what is missing for the file block p is taken
-pub backed-work : (n e h q k p : ℕ) (w : Bytes) → q ≡ above h p → p < e → Fit n w h q k → Work n e w h q k (backed mapPlace n w h k p)
+pub backed-work : (n e h q k p : ℕ) (w : Bytes) → q ≡ above h p → p < e → Fit n w h q k
+    → Work n e w h q k (backed mapPlace n w h k p) h q k
 unfolding backed above
 backed-work n e zero q k p w s l F = work-none e F
 backed-work n e (suc h) q k p w s l F =
@@ -216,12 +232,12 @@ backed-work n e (suc h) q k p w s l F =
     num = omega arith
 
     go : (b : Bool) → eqb (pointer w k i) 0 ≡ b → (c : Bool) → ltb z n ≡ c
-        → ((r c : ℕ) (x : Bytes) → r ≡ above h p → Fit n x h r c → Work n e x h r c (backed mapPlace n x h c p))
+        → ((r c : ℕ) (x : Bytes) → r ≡ above h p → Fit n x h r c → Work n e x h r c (backed mapPlace n x h c p) h r c)
         → Work n e w (suc h) q k
         (elim b [
           | true ↦ elim c [ true ↦ backed mapPlace n (putPointer (taken mapPlace w z) k i z) h z p | false ↦ w ]
           | false ↦ backed mapPlace n w h (pointer w k i) p
-        ])
+        ]) (suc h) q k
     go false t c u rec =
         let full = eqb-false (pointer w k i) 0 t in
         work-lift F (omega arith) full (rec (q * 256 + i) (pointer w k i) w num (fit-below F (omega arith) full))
