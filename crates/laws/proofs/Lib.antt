@@ -9,3 +9,5 @@ pub mod One
 pub mod Weigh
 pub mod Move
 pub mod Take
+pub mod Room
+pub mod Data
