@@ -11,3 +11,4 @@ pub mod Move
 pub mod Take
 pub mod Room
 pub mod Data
+pub mod Need

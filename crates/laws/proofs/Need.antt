@@ -1,0 +1,225 @@
+-- What is missing for a file block is taken where there is room for it; what is missing for a range of file blocks is counted before.
+use Prim.Native.Nat.{ℕ, zero, suc, _+_, _-_, _*_, _≤_, _<_, _/_, _%_, _^_}
+use mathlib.Core.Path.{_≡_, refl, sym, ap, _∙_}
+use mathlib.Core.Bool.{Bool, true, false}
+use lib.Dec.{leb, ltb, eqb}
+use native.Mathlib.Omega.{arith}
+use native.Mathlib.Numerals.{add-one}
+use borrow.Author.Tests.{eqb-true, eqb-false, eq-eqb, ne-eqb, ltb-true, ltb-false, lt-ltb}
+use Rattle.model.specs.Bytes.{Bytes, sum, count, run, is}
+use Rattle.model.specs.Map.{free, room, lowest, taken}
+use Rattle.model.specs.Directory.{mapPlace}
+use Rattle.model.specs.File.{pointer, putPointer, above, dataBlock}
+use Rattle.model.specs.Grow.{backed, lacksBlock, lacksIndex, need}
+use Rattle.model.proofs.ByteLaws.{at-or-off}
+use Rattle.model.proofs.BitLaws.{is-yes, is-no, is-most, lowest-free, room-lowest}
+use Rattle.model.proofs.SumLaws.{is-self, sum-le, run-in}
+use Rattle.laws.proofs.Weigh.{upto, upto-one, upto-zero, Gauge, arm, weigh, each, size, part, arm-hole, arm-full, part-zero, has-key, Blank, pointer-blank}
+use Rattle.laws.proofs.Move.{by-zero, by-lt, Fit, Move, move-fit, fit-some, free-some, fit-below, lift-weigh, lift-pointer}
+use Rattle.laws.proofs.Take.{Work, hung-work, hung-weigh, hung-at, hung-blank, first-above, backed-work}
+use Rattle.laws.proofs.Room.{move-room}
+use Rattle.laws.proofs.Data.{grown-data}
+
+pub data-hole : (h k p : ℕ) (w : Bytes) → pointer w k (above h p % 256) ≡ 0 → dataBlock w (suc h) k p ≡ 0
+unfolding dataBlock
+data-hole h k p w e = rw (eq-eqb (pointer w k (above h p % 256)) 0 e, dataBlock) refl
+
+pub data-at : (h k p c : ℕ) (w : Bytes) → pointer w k (above h p % 256) ≡ c → (c ≡ 0 → ⊥) → dataBlock w (suc h) k p ≡ dataBlock w h c p
+unfolding dataBlock
+data-at h k p c w e z = rw (ne-eqb (pointer w k (above h p % 256)) 0 (λ y. z (sym e ∙ y)), dataBlock) (rw e refl)
+
+-- the blocks missing for the file block p
+pub miss : Bytes → ℕ → ℕ → ℕ → ℕ
+miss w zero k p = 0
+miss w (suc h) k p = elim (eqb (pointer w k (above h p % 256)) 0) [ true ↦ suc h | false ↦ miss w h (pointer w k (above h p % 256)) p ]
+
+miss-hole : (h k p : ℕ) (w : Bytes) → pointer w k (above h p % 256) ≡ 0 → miss w (suc h) k p ≡ suc h
+unfolding miss
+miss-hole h k p w e = rw (eq-eqb (pointer w k (above h p % 256)) 0 e, miss) refl
+
+miss-full : (h k p : ℕ) (w : Bytes) → (pointer w k (above h p % 256) ≡ 0 → ⊥) → miss w (suc h) k p ≡ miss w h (pointer w k (above h p % 256)) p
+unfolding miss
+miss-full h k p w e = rw (ne-eqb (pointer w k (above h p % 256)) 0 e, miss) refl
+
+miss-blank : (h k p : ℕ) (w : Bytes) → Blank w k → miss w h k p ≡ h
+miss-blank zero k p w f = unfold miss in refl
+miss-blank (suc h) k p w f = miss-hole h k p w (pointer-blank w k (above h p % 256) f (omega arith))
+
+-- with room enough the file block p is there, and as many blocks as were missing are taken
+pub record Complete (h q k p : ℕ) (w w′ : Bytes) : Type 0 where
+  pub more : size w′ h q k ≡ size w h q k + miss w h k p
+  pub there : dataBlock w′ h k p ≡ 0 → ⊥
+
+pub backed-complete : (n e h q k p : ℕ) (w : Bytes) → q ≡ above h p → p < e → Fit n w h q k → miss w h k p ≤ room mapPlace w n
+    → Complete h q k p w (backed mapPlace n w h k p)
+unfolding backed above miss
+backed-complete n e zero q k p w s l F m =
+    record { more = omega arith; there = λ z. fit-some F k (has-key w 0 q k) (unfold dataBlock in z) }
+backed-complete n e (suc h) q k p w s l F m =
+    go (eqb (pointer w k i) 0) refl (ltb z n) refl m (λ r c x t G o. backed-complete n e h r c p x t l G o)
+  where
+    i : ℕ
+    i = above h p % 256
+
+    z : ℕ
+    z = lowest mapPlace w n
+
+    num : q * 256 + i ≡ above h p
+    num = omega arith
+
+    -- what is completed below the pointer i of x
+    up-from : (x : Bytes) (G : Fit n x (suc h) q k) (full : pointer x k i ≡ 0 → ⊥)
+        → Complete h (q * 256 + i) (pointer x k i) p x (backed mapPlace n x h (pointer x k i) p)
+        → (size (backed mapPlace n x h (pointer x k i) p) (suc h) q k ≡ size x (suc h) q k + miss x h (pointer x k i) p)
+        × (dataBlock (backed mapPlace n x h (pointer x k i) p) (suc h) k p ≡ 0 → ⊥)
+    up-from x G full C =
+        let y = backed mapPlace n x h (pointer x k i) p in
+        let T = backed-work n e h (q * 256 + i) (pointer x k i) p x num l (fit-below G (omega arith) full) .move in
+        (omega (arith, C .more, lift-weigh G (omega arith) full T (each (λ _. 1))),
+          λ o. C .there (sym (data-at h k p (pointer x k i) y (lift-pointer G (omega arith) full T i (omega arith)) full) ∙ o))
+
+    go : (b : Bool) → eqb (pointer w k i) 0 ≡ b → (c : Bool) → ltb z n ≡ c
+        → elim b as (λ _. ℕ) [ true ↦ suc h | false ↦ miss w h (pointer w k i) p ] ≤ room mapPlace w n
+        → ((r c : ℕ) (x : Bytes) → r ≡ above h p → Fit n x h r c → miss x h c p ≤ room mapPlace x n → Complete h r c p x (backed mapPlace n x h c p))
+        → Complete (suc h) q k p w
+        (elim b [
+          | true ↦ elim c [ true ↦ backed mapPlace n (putPointer (taken mapPlace w z) k i z) h z p | false ↦ w ]
+          | false ↦ backed mapPlace n w h (pointer w k i) p
+        ])
+    go false t c u o rec =
+        let full = eqb-false (pointer w k i) 0 t in
+        let r = up-from w F full (rec (q * 256 + i) (pointer w k i) w num (fit-below F (omega arith) full) o) in
+        record { more = rw (miss-full h k p w full) (r .0); there = r .1 }
+    go true t false u o rec = absurd (omega (arith, room-lowest mapPlace w n (omega arith), ltb-false z n u))
+    go true t true u o rec =
+        let hole = eqb-true (pointer w k i) 0 t in
+        let zn = ltb-true z n u in
+        let zf = lowest-free mapPlace w n zn in
+        let x = putPointer (taken mapPlace w z) k i z in
+        let A = hung-work e F i z (omega arith) hole zn zf (rw num (omega (arith, first-above h p))) in
+        let one = hung-weigh F i z (omega arith) hole zn zf (each (λ _. 1)) in
+        let G = move-fit F (A .move) in
+        let place : pointer x k i ≡ z = hung-at F i z (omega arith) hole zn zf in
+        let full : pointer x k i ≡ 0 → ⊥ = λ y. free-some F z zn zf (sym place ∙ y) in
+        let all : miss x h (pointer x k i) p ≡ h = rw place (miss-blank h z p x (hung-blank F i z (omega arith) hole zn zf)) in
+        let r = up-from x G full (rec (q * 256 + i) (pointer x k i) x num (fit-below G (omega arith) full) (omega (arith, all, one, move-room F (A .move)))) in
+        let r0 = r .0 in
+        let done : Complete (suc h) q k p w (backed mapPlace n x h (pointer x k i) p) =
+          record { more = rw (miss-hole h k p w hole) (omega (arith, r0, one, all)); there = r .1 } in
+        rw place at done
+
+-- Indexes of a tree by their numbers.
+abbrev mark : ℕ → Gauge
+mark i zero s x = 0
+mark i (suc zero) s x = is i s
+mark i (suc (suc l)) s x = 0
+
+pub mark-low : (i s c : ℕ) (w : Bytes) → weigh (mark i) w 1 s c ≡ is i s
+unfolding weigh
+mark-low i s c w = omega (arith, upto-zero 256 _ (λ j l. part-zero (mark i) w 0 s c j (λ z. refl)))
+
+pub mark-is : (i k : ℕ) (w : Bytes) → i < 256 → weigh (mark i) w 2 0 k + is (pointer w k i) 0 ≡ 1
+unfolding weigh
+mark-is i k w l =
+    let alone =
+      upto-one 256 i (arm (λ s p. weigh (mark i) w 1 s p) w 0 k) (λ _. 0) l
+      (λ j m d. part-zero (mark i) w 1 0 k j (λ y. mark-low i (0 * 256 + j) (pointer w k j) w ∙ is-no i (0 * 256 + j) (λ t. d (omega arith)))) in
+    let rest = upto-zero 256 (λ _. 0) (λ _ _. refl) in
+    at-or-off (pointer w k i) 0
+    (λ e. omega (arith, alone, rest, arm-hole (λ s p. weigh (mark i) w 1 s p) w 0 k i e, is-yes (pointer w k i) 0 e))
+    (λ e.
+      let z : 0 * 256 + i ≡ i = omega arith in
+      omega
+      (arith, alone, rest, arm-full (λ s p. weigh (mark i) w 1 s p) w 0 k i e, is-no (pointer w k i) 0 e,
+        mark-low i (0 * 256 + i) (pointer w k i) w, is-yes i (0 * 256 + i) (sym z)))
+
+-- growth leaves no more holes
+module _ (w : Bytes) (h k : ℕ) (w′ : Bytes) (h′ k′ : ℕ) (grows : (g : Gauge) → weigh g w h 0 k ≤ weigh g w′ h′ 0 k′) where
+  pub gap-less : (r : ℕ) → 0 ≡ above h r → 0 ≡ above h′ r → is (dataBlock w′ h′ k′ r) 0 ≤ is (dataBlock w h k r) 0
+  gap-less r s t =
+      at-or-off (dataBlock w h k r) 0 (λ e. omega (arith, is-yes (dataBlock w h k r) 0 e, is-most (dataBlock w′ h′ k′ r) 0))
+      (λ d. rw (grown-data w h 0 k w′ h′ 0 k′ r grows s t d) (omega arith))
+
+-- what is missing for the file blocks p to p + c - 1 of a file of height g: indexes of a tree, and data blocks
+holes : Bytes → ℕ → ℕ → ℕ → ℕ
+holes w k p c = sum (λ i. is (pointer w k i) 0) (run (p / 256) ((p + c - 1) / 256 + 1 - p / 256))
+
+gaps : Bytes → ℕ → ℕ → ℕ → ℕ → ℕ
+gaps w g k p c = sum (λ r. is (dataBlock w g k r) 0) (run p c)
+
+pub lacks : Bytes → ℕ → ℕ → ℕ → ℕ → ℕ
+lacks w g k p c = elim (eqb g 2) [ true ↦ holes w k p c | false ↦ 0 ] + gaps w g k p c
+
+lacks-low : (w : Bytes) (g k p c : ℕ) → (g ≡ 2 → ⊥) → lacks w g k p c ≡ gaps w g k p c
+unfolding lacks
+lacks-low w g k p c d = rw (ne-eqb g 2 d, lacks) (omega arith)
+
+lacks-tree : (w : Bytes) (k p c : ℕ) → lacks w 2 k p c ≡ holes w k p c + gaps w 2 k p c
+unfolding lacks
+lacks-tree w k p c = refl
+
+miss-one : (w : Bytes) (k p : ℕ) → miss w 1 k p ≤ is (dataBlock w 1 k p) 0
+miss-one w k p =
+    at-or-off (pointer w k (above 0 p % 256)) 0
+    (λ e. rw (miss-hole 0 k p w e, data-hole 0 k p w e) (omega (arith, is-self 0)))
+    (λ d. rw (miss-full 0 k p w d) (unfold miss in omega arith))
+
+miss-two : (w : Bytes) (k p : ℕ) → miss w 2 k p ≤ is (pointer w k (above 1 p % 256)) 0 + is (dataBlock w 2 k p) 0
+miss-two w k p =
+    at-or-off (pointer w k (above 1 p % 256)) 0
+    (λ e. rw (miss-hole 1 k p w e, data-hole 1 k p w e, is-yes (pointer w k (above 1 p % 256)) 0 e) (omega (arith, is-self 0)))
+    (λ d.
+      rw (miss-full 1 k p w d, data-at 1 k p (pointer w k (above 1 p % 256)) w refl d)
+      (omega (arith, miss-one w (pointer w k (above 1 p % 256)) p)))
+
+-- one file block in hand, and the rest
+module _ (w w′ : Bytes) (g k e p c : ℕ) (path : (r : ℕ) → r < e → 0 ≡ above g r) (pe : p + suc c ≤ e)
+    (grows : (x : Gauge) → weigh x w g 0 k ≤ weigh x w′ g 0 k) where
+  gaps-step : gaps w′ g k (p + 1) c + is (dataBlock w g k p) 0 ≤ gaps w g k p (suc c)
+  unfolding gaps run sum
+  gaps-step =
+      rw (add-one p)
+      (omega
+      (arith,
+        sum-le (λ r. is (dataBlock w′ g k r) 0) (λ r. is (dataBlock w g k r) 0) (run (suc p) c)
+        (λ r m. let i = run-in c (suc p) r m in let l : r < e = omega (arith, i .1) in gap-less w g k w′ g k grows r (path r l) (path r l))))
+
+holes-step : (w w′ : Bytes) (k p c : ℕ) → p + suc c ≤ 65536 → ((x : Gauge) → weigh x w 2 0 k ≤ weigh x w′ 2 0 k)
+    → (pointer w′ k (p / 256) ≡ 0 → ⊥) → holes w′ k (p + 1) c + is (pointer w k (p / 256)) 0 ≤ holes w k p (suc c)
+unfolding holes
+holes-step w w′ k p c pe grows d =
+    let m : ℕ = (p + c) / 256 - p / 256 in
+    let e : (p + suc c - 1) / 256 + 1 - p / 256 ≡ suc m = omega arith in
+    let less : sum (λ i. is (pointer w′ k i) 0) (run (suc (p / 256)) m) ≤ sum (λ i. is (pointer w k i) 0) (run (suc (p / 256)) m) =
+      sum-le _ _ (run (suc (p / 256)) m) (λ i o.
+        let r = run-in m (suc (p / 256)) i o in
+        let il : i < 256 = omega (arith, r .1) in
+        omega (arith, grows (mark i), mark-is i k w il, mark-is i k w′ il)) in
+    rw e
+    (at-or-off ((p + 1) / 256) (p / 256)
+    (λ f.
+      let e′ : (p + 1 + c - 1) / 256 + 1 - (p + 1) / 256 ≡ suc m = omega arith in
+      rw (e′, f) (unfold run sum in omega (arith, is-no (pointer w′ k (p / 256)) 0 d)))
+    (λ f.
+      let f′ : (p + 1) / 256 ≡ suc (p / 256) = omega arith in
+      let e′ : (p + 1 + c - 1) / 256 + 1 - (p + 1) / 256 ≡ m = omega arith in
+      rw (e′, f′) (unfold run sum in omega arith)))
+
+pub lacks-step : (w w′ : Bytes) (g k e p c : ℕ) → g ≤ 2 → e ≤ 65536 → ((r : ℕ) → r < e → 0 ≡ above g r) → p + suc c ≤ e
+    → ((x : Gauge) → weigh x w g 0 k ≤ weigh x w′ g 0 k) → (dataBlock w′ g k p ≡ 0 → ⊥)
+    → lacks w′ g k (p + 1) c + miss w g k p ≤ lacks w g k p (suc c)
+lacks-step w w′ zero k e p c gl el path pe grows d =
+    rw (lacks-low w′ 0 k (p + 1) c (λ t. omega arith), lacks-low w 0 k p (suc c) (λ t. omega arith))
+    (unfold miss in omega (arith, gaps-step w w′ 0 k e p c path pe grows))
+lacks-step w w′ (suc zero) k e p c gl el path pe grows d =
+    rw (lacks-low w′ 1 k (p + 1) c (λ t. omega arith), lacks-low w 1 k p (suc c) (λ t. omega arith))
+    (omega (arith, gaps-step w w′ 1 k e p c path pe grows, miss-one w k p))
+lacks-step w w′ (suc (suc zero)) k e p c gl el path pe grows d =
+    let i : above 1 p % 256 ≡ p / 256 = unfold above in omega arith in
+    rw (lacks-tree w′ k (p + 1) c, lacks-tree w k p (suc c))
+    (omega
+    (arith,
+      gaps-step w w′ 2 k e p c path pe grows,
+      rw i at (miss-two w k p),
+      holes-step w w′ k p c (omega arith) grows (λ z. d (data-hole 1 k p w′ (rw i z)))))
+lacks-step w w′ (suc (suc (suc g))) k e p c gl el path pe grows d = absurd (omega arith)
