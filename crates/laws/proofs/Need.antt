@@ -5,7 +5,7 @@ use mathlib.Core.Bool.{Bool, true, false}
 use lib.Dec.{leb, ltb, eqb}
 use native.Mathlib.Omega.{arith}
 use native.Mathlib.Numerals.{add-one}
-use borrow.Author.Tests.{eqb-true, eqb-false, eq-eqb, ne-eqb, ltb-true, ltb-false, lt-ltb}
+use borrow.Author.Tests.{eqb-true, eqb-false, eq-eqb, ne-eqb, ltb-true, ltb-false, lt-ltb, le-ltb}
 use Rattle.model.specs.Bytes.{Bytes, sum, count, run, is}
 use Rattle.model.specs.Map.{free, room, lowest, taken}
 use Rattle.model.specs.Directory.{mapPlace}
@@ -223,3 +223,54 @@ lacks-step w w′ (suc (suc zero)) k e p c gl el path pe grows d =
       rw i at (miss-two w k p),
       holes-step w w′ k p c (omega arith) grows (λ z. d (data-hole 1 k p w′ (rw i z)))))
 lacks-step w w′ (suc (suc (suc g))) k e p c gl el path pe grows d = absurd (omega arith)
+
+-- The need, counted before the new keys are taken.
+above-low : (h r : ℕ) → h ≤ 2 → r < 256 ^ h → 0 ≡ above h r
+unfolding above
+above-low zero r l m = omega arith
+above-low (suc zero) r l m = omega arith
+above-low (suc (suc zero)) r l m = omega arith
+above-low (suc (suc (suc h))) r l m = absurd (omega arith)
+
+module _ (v : Bytes) (h k : ℕ) (w : Bytes) (g l : ℕ) (hl : h ≤ 2) (some : k ≡ 0 → ⊥)
+    (grows : (x : Gauge) → weigh x v h 0 k ≤ weigh x w g 0 l) where
+  gap-need : (r : ℕ) → 0 ≡ above g r → is (dataBlock w g l r) 0 ≤ lacksBlock v h k r
+  unfolding lacksBlock
+  gap-need r t =
+      by-lt r (256 ^ h) (λ m. rw (lt-ltb r (256 ^ h) m, lacksBlock) (gap-less v h k w g l grows r (above-low h r hl m) t))
+      (λ m. rw (le-ltb r (256 ^ h) m, lacksBlock) (is-most (dataBlock w g l r) 0))
+
+index-need : (v : Bytes) (h k : ℕ) (w : Bytes) (l : ℕ) → h ≤ 2 → (k ≡ 0 → ⊥) → ((x : Gauge) → weigh x v h 0 k ≤ weigh x w 2 0 l)
+    → (i : ℕ) → i < 256 → is (pointer w l i) 0 ≤ lacksIndex v h k i
+index-need v zero k w l hl some grows i il =
+    at-or-off i 0
+    (λ e.
+      let same = grown-data v 0 0 k w 2 0 l 0 grows (unfold above in refl) (unfold above in refl) (λ z. some (unfold dataBlock in z)) in
+      rw e
+      (rw (is-no (pointer w l 0) 0 (λ z. some (unfold dataBlock in sym same ∙ data-hole 1 l 0 w (unfold above in z)))) (omega arith)))
+    (λ d. unfold lacksIndex in rw (is-no i 0 d) (is-most (pointer w l i) 0))
+index-need v (suc zero) k w l hl some grows i il =
+    at-or-off i 0
+    (λ e. omega (arith, grows (mark i), mark-low i 0 k v, is-yes i 0 e, mark-is i l w il))
+    (λ d. unfold lacksIndex in rw (is-no i 0 d) (is-most (pointer w l i) 0))
+index-need v (suc (suc zero)) k w l hl some grows i il =
+    unfold lacksIndex in omega (arith, grows (mark i), mark-is i k v il, mark-is i l w il)
+index-need v (suc (suc (suc h))) k w l hl some grows i il = absurd (omega arith)
+
+pub need-lacks : (v : Bytes) (h k : ℕ) (w : Bytes) (g l e p c : ℕ) → h ≤ 2 → (k ≡ 0 → ⊥) → ((x : Gauge) → weigh x v h 0 k ≤ weigh x w g 0 l)
+    → e ≤ 65536 → ((r : ℕ) → r < e → 0 ≡ above g r) → p + c ≤ e → 1 ≤ c → (g - h) + lacks w g l p c ≤ need v h k g p c
+unfolding need
+need-lacks v h k w g l e p c hl some grows el path pe cl =
+    let blocks : gaps w g l p c ≤ sum (lacksBlock v h k) (run p c) =
+      unfold gaps in
+      sum-le _ _ (run p c) (λ r m. let i = run-in c p r m in gap-need v h k w g l hl some grows r (path r (omega (arith, i .1)))) in
+    at-or-off g 2
+    (λ t. rw t
+      (let more : (x : Gauge) → weigh x v h 0 k ≤ weigh x w 2 0 l = rw t at grows in
+      let indexes : holes w l p c ≤ sum (lacksIndex v h k) (run (p / 256) ((p + c - 1) / 256 + 1 - p / 256)) =
+        unfold holes in
+        sum-le _ _ (run (p / 256) ((p + c - 1) / 256 + 1 - p / 256)) (λ i m.
+          let r = run-in ((p + c - 1) / 256 + 1 - p / 256) (p / 256) i m in
+          index-need v h k w l hl some more i (omega (arith, r .1))) in
+      rw (lacks-tree w l p c) (omega (arith, indexes, rw t at blocks))))
+    (λ t. rw (lacks-low w g l p c t, ne-eqb g 2 t, need) (omega (arith, blocks)))
