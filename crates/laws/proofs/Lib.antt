@@ -12,3 +12,4 @@ pub mod Take
 pub mod Room
 pub mod Data
 pub mod Need
+pub mod Pour

@@ -274,3 +274,23 @@ need-lacks v h k w g l e p c hl some grows el path pe cl =
           index-need v h k w l hl some more i (omega (arith, r .1))) in
       rw (lacks-tree w l p c) (omega (arith, indexes, rw t at blocks))))
     (λ t. rw (lacks-low w g l p c t, ne-eqb g 2 t, need) (omega (arith, blocks)))
+
+-- what one file block misses is among it
+gaps-first : (w : Bytes) (g k p c : ℕ) → is (dataBlock w g k p) 0 ≤ gaps w g k p (suc c)
+unfolding gaps run sum
+gaps-first w g k p c = omega arith
+
+holes-first : (w : Bytes) (k p c : ℕ) → is (pointer w k (p / 256)) 0 ≤ holes w k p (suc c)
+unfolding holes
+holes-first w k p c =
+    let f : (p + suc c - 1) / 256 + 1 - p / 256 ≡ suc ((p + c) / 256 - p / 256) = omega arith in
+    rw f (unfold run sum in omega arith)
+
+pub miss-lacks : (w : Bytes) (g k p c : ℕ) → g ≤ 2 → p < 65536 → miss w g k p ≤ lacks w g k p (suc c)
+miss-lacks w zero k p c gl pl = unfold miss in omega arith
+miss-lacks w (suc zero) k p c gl pl =
+    rw (lacks-low w 1 k p (suc c) (λ t. omega arith)) (omega (arith, miss-one w k p, gaps-first w 1 k p c))
+miss-lacks w (suc (suc zero)) k p c gl pl =
+    let i : above 1 p % 256 ≡ p / 256 = unfold above in omega arith in
+    rw (lacks-tree w k p (suc c)) (omega (arith, rw i at (miss-two w k p), holes-first w k p c, gaps-first w 2 k p c))
+miss-lacks w (suc (suc (suc g))) k p c gl pl = absurd (omega arith)

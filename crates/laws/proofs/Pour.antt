@@ -1,0 +1,114 @@
+-- Data laid block by block, and the bytes at EOF and after zeroed: the tree, and the bytes that are read.
+use Prim.Native.Nat.{ℕ, zero, suc, _+_, _-_, _*_, _≤_, _<_, _/_, _%_, min, max}
+use mathlib.Core.Path.{_≡_, refl, sym, ap, _∙_}
+use mathlib.Core.Bool.{Bool, true, false}
+use lib.Dec.{leb, ltb, eqb}
+use native.Mathlib.Omega.{arith}
+use native.Mathlib.Numerals.{add-one}
+use borrow.Author.Tests.{eqb-true, eqb-false, ltb-true, ltb-false}
+use Rattle.model.specs.Bytes.{Bytes, Octets, paste, from, clear, is}
+use Rattle.model.specs.Map.{room}
+use Rattle.model.specs.Directory.{mapPlace}
+use Rattle.model.specs.File.{span, above, dataBlock, fileByte}
+use Rattle.model.specs.Grow.{zeroedFrom, backed}
+use Rattle.model.specs.Write.{laid, poured}
+use Rattle.model.proofs.ByteLaws.{at-or-off, in-or-out, paste-in, paste-out, octets-paste, clear-in, clear-out, octets-clear}
+use Rattle.laws.proofs.Frame.{Alike}
+use Rattle.laws.proofs.Weigh.{Gauge, weigh, each, tardy, size}
+use Rattle.laws.proofs.Move.{by-zero, by-lt, Fit, Move, move-none, move-fit, move-then}
+use Rattle.laws.proofs.Take.{Work, backed-work, Still, still-none, data-still}
+use Rattle.laws.proofs.Room.{move-room}
+use Rattle.laws.proofs.Data.{still-data, data-apart, late-hole, spot-is, file-hole, file-full, file-same, work-byte}
+use Rattle.laws.proofs.Need.{miss, Complete, backed-complete, lacks, lacks-step, miss-lacks}
+
+-- the place of byte i in its block, where s is the first byte laid and e the end
+record InBlock (b p pos s e i : ℕ) : Type 0 where
+  low : b * 512 + (s - p * 512) ≤ b * 512 + i % 512
+  high : b * 512 + i % 512 < b * 512 + (s - p * 512) + (e - s)
+  back : i - pos ≡ s - pos + (b * 512 + i % 512 - (b * 512 + (s - p * 512)))
+
+in-block : (b p pos s e i : ℕ) → i / 512 ≡ p → pos ≤ s → p * 512 ≤ s → s ≤ i → i < e → InBlock b p pos s e i
+in-block b p pos s e i t a c l m =
+    let x : s - p * 512 ≤ i % 512 = omega arith in
+    record { low = omega arith; high = omega arith; back = omega arith }
+
+-- The data of one file block.
+module _ {n : ℕ} {w : Bytes} {h q k : ℕ} (F : Fit n w h q k) (p pos size : ℕ) (buffer : Bytes) (octets : Octets buffer)
+    (there : dataBlock w h k p ≡ 0 → ⊥) where
+  abbrev new : Bytes
+  new = laid w h k p pos buffer size
+
+  laid-out : (i : ℕ) → (p * 512 ≤ i → i < p * 512 + 512 → pos ≤ i → i < pos + size → ⊥) → p * 512 ≤ i → i < p * 512 + 512
+      → new (dataBlock w h k p * 512 + (i - p * 512)) ≡ w (dataBlock w h k p * 512 + (i - p * 512))
+  unfolding laid
+  laid-out i o l m = paste-out w _ _ _ _ (λ x y. o l m (omega arith) (omega arith))
+
+  laid-alike : (b : ℕ) → (b ≡ dataBlock w h k p → ⊥) → Alike 512 w new b
+  unfolding laid
+  laid-alike b d j l = paste-out w _ _ _ _ (λ x y. d (omega arith))
+
+  pub laid-still : Still n w h q k new
+  laid-still = data-still n h q k p w new F (unfold laid in octets-paste w _ _ _ (F .bytes) (λ i l. octets _)) there laid-alike
+
+  module _ (i : ℕ) (t : q ≡ above h p) where
+    pub laid-in : i / 512 ≡ p → pos ≤ i → i < pos + size → fileByte new h k i ≡ buffer (i - pos)
+    laid-in e l m =
+        let same : dataBlock new h k (i / 512) ≡ dataBlock w h k p = rw e (still-data laid-still p t) in
+        let x =
+          in-block (dataBlock w h k p) p pos (max pos (p * 512)) (min (pos + size) (p * 512 + 512)) i e (omega arith) (omega arith) (omega arith) (omega arith) in
+        file-full new h k i (λ z. there (sym same ∙ z))
+        ∙ rw (same, x .back) (unfold laid in paste-in w _ _ _ (dataBlock w h k p * 512 + i % 512) (x .low) (x .high))
+
+    pub laid-off : q ≡ above h (i / 512) → (i / 512 ≡ p → pos ≤ i → i < pos + size → ⊥) → fileByte new h k i ≡ fileByte w h k i
+    laid-off s o =
+        let same = still-data laid-still (i / 512) s in
+        at-or-off (i / 512) p
+        (λ e.
+          let d : dataBlock w h k (i / 512) ≡ 0 → ⊥ = rw e there in
+          let x : i % 512 ≡ i - p * 512 = omega arith in
+          file-full new h k i (λ z. d (sym same ∙ z))
+          ∙ rw (same, e, x) (laid-out i (λ _ _. o e) (omega arith) (omega arith))
+          ∙ sym (rw (e, x) at (file-full w h k i d)))
+        (λ e. file-same w h k new h k i same (λ d. laid-alike (dataBlock w h k (i / 512)) (λ z. data-apart F p (i / 512) t s (λ y. e (sym y)) there z)))
+
+-- The data of c file blocks from p on.
+pub record Poured (n e : ℕ) (w : Bytes) (h k : ℕ) (w′ : Bytes) (p c pos : ℕ) (buffer : Bytes) (size : ℕ) : Type 0 where
+  pub move : Move n w h 0 k w′ h 0 k
+  pub timely : weigh (tardy e) w h 0 k ≡ 0 → weigh (tardy e) w′ h 0 k ≡ 0
+  pub inside : (i : ℕ) → p ≤ i / 512 → i / 512 < p + c → pos ≤ i → i < pos + size → fileByte w′ h k i ≡ buffer (i - pos)
+  pub outside : (i : ℕ) → i / 512 < e → (p ≤ i / 512 → i / 512 < p + c → pos ≤ i → i < pos + size → ⊥) → fileByte w′ h k i ≡ fileByte w h k i
+
+module _ (n e h k pos size : ℕ) (buffer : Bytes) (octets : Octets buffer) (hl : h ≤ 2) (el : e ≤ 65536)
+    (path : (r : ℕ) → r < e → 0 ≡ above h r) where
+  pub pour : (p c : ℕ) (w : Bytes) → p + c ≤ e → Fit n w h 0 k → lacks w h k p c ≤ room mapPlace w n
+      → Poured n e w h k (poured mapPlace n w h k p c pos buffer size) p c pos buffer size
+  unfolding poured
+  pour p zero w pe F m =
+      record { move = move-none F; timely = λ t. t; inside = λ i a b. absurd (omega arith); outside = λ i l o. refl }
+  pour p (suc c) w pe F m =
+      let pl : p < e = omega arith in
+      let x = backed mapPlace n w h k p in
+      let A = backed-work n e h 0 k p w (path p pl) pl F in
+      let G = move-fit F (A .move) in
+      let C : Complete h 0 k p w x = backed-complete n e h 0 k p w (path p pl) pl F (omega (arith, m, miss-lacks w h k p c hl (omega arith))) in
+      let y = laid x h k p pos buffer size in
+      let B = laid-still G p pos size buffer octets (C .there) in
+      let H = move-fit G (B .move) in
+      let more : (g : Gauge) → weigh g w h 0 k ≤ weigh g y h 0 k = λ g. omega (arith, A .grows g, B .weights g) in
+      let there : dataBlock y h k p ≡ 0 → ⊥ = λ z. C .there (sym (still-data B p (path p pl)) ∙ z) in
+      let less = lacks-step w y h k e p c hl el path pe more there in
+      let T = move-then (A .move) (B .move) in
+      let D =
+        pour (p + 1) c y (omega arith) H
+        (omega (arith, less, m, C .more, B .weights (each (λ _. 1)), move-room F T)) in
+      record {
+        move = move-then T (D .move);
+        timely = λ t. D .timely (B .weights (tardy e) ∙ A .timely t);
+        inside = λ i a b u v. at-or-off (i / 512) p
+          (λ t. D .outside i (omega arith) (λ f g _ _. omega arith) ∙ laid-in G p pos size buffer octets (C .there) i (path p pl) t u v)
+          (λ t. D .inside i (omega arith) (omega arith) u v);
+        outside = λ i l o.
+          D .outside i l (λ a b. o (omega arith) (omega arith))
+          ∙ laid-off G p pos size buffer octets (C .there) i (path p pl) (path (i / 512) l) (λ t. o (omega arith) (omega arith))
+          ∙ work-byte A G i (path (i / 512) l) (path (i / 512) l);
+      }
