@@ -13,3 +13,4 @@ pub mod Room
 pub mod Data
 pub mod Need
 pub mod Pour
+pub mod Entry

@@ -112,3 +112,58 @@ module _ (n e h k pos size : ℕ) (buffer : Bytes) (octets : Octets buffer) (hl 
           ∙ laid-off G p pos size buffer octets (C .there) i (path p pl) (path (i / 512) l) (λ t. o (omega arith) (omega arith))
           ∙ work-byte A G i (path (i / 512) l) (path (i / 512) l);
       }
+
+-- The bytes at EOF and after.
+pub span-next : (e : ℕ) → span e ≤ e / 512 + 1
+unfolding span
+span-next e = omega arith
+
+pub record Zeroed (n e : ℕ) (w : Bytes) (h q k : ℕ) (w′ : Bytes) : Type 0 where
+  pub still : Still n w h q k w′
+  pub below : (i : ℕ) → i < e → q ≡ above h (i / 512) → fileByte w′ h k i ≡ fileByte w h k i
+  pub past : (i : ℕ) → e ≤ i → i / 512 < span e → fileByte w′ h k i ≡ 0
+
+pub zeroed : {n : ℕ} {w : Bytes} {h q k : ℕ} → Fit n w h q k → (e : ℕ) → ((r : ℕ) → r < span e → q ≡ above h r)
+    → Zeroed n e w h q k (zeroedFrom w h k e)
+unfolding zeroedFrom
+zeroed {n} {w} {h} {q} {k} F e path = go (ltb e (span e * 512)) refl (eqb z 0) refl
+  where
+    z : ℕ
+    z = dataBlock w h k (e / 512)
+
+    here : (i : ℕ) → e ≤ i → i / 512 < span e → i / 512 ≡ e / 512
+    here i a b = omega (arith, span-next e)
+
+    go : (b : Bool) → ltb e (span e * 512) ≡ b → (c : Bool) → eqb z 0 ≡ c
+        → Zeroed n e w h q k
+        (elim b [ true ↦ elim c [ true ↦ w | false ↦ clear w (z * 512 + e % 512) (512 - e % 512) ] | false ↦ w ])
+    go false s c t = let l = ltb-false e (span e * 512) s in record { still = still-none F; below = λ i m o. refl; past = λ i a b. absurd (omega arith) }
+    go true s true t =
+        record {
+          still = still-none F;
+          below = λ i m o. refl;
+          past = λ i a b. file-hole w h k i (rw (here i a b) (eqb-true z 0 t));
+        }
+    go true s false t =
+        let l = ltb-true e (span e * 512) s in
+        let there = eqb-false z 0 t in
+        let num : q ≡ above h (e / 512) = path (e / 512) (omega arith) in
+        let x = clear w (z * 512 + e % 512) (512 - e % 512) in
+        let alike : (b : ℕ) → (b ≡ z → ⊥) → Alike 512 w x b = λ b d j m. clear-out w _ _ _ (λ u y. d (omega arith)) in
+        let A : Still n w h q k x = data-still n h q k (e / 512) w x F (octets-clear w _ _ (F .bytes)) there alike in
+        record {
+          still = A;
+          below = λ i m o.
+            let same = still-data A (i / 512) o in
+            at-or-off (i / 512) (e / 512)
+            (λ f.
+              let d : dataBlock w h k (i / 512) ≡ 0 → ⊥ = rw f there in
+              file-full x h k i (λ y. d (sym same ∙ y))
+              ∙ rw (same, f) (clear-out w _ _ _ (λ u y. omega arith))
+              ∙ sym (rw f at (file-full w h k i d)))
+            (λ f. file-same w h k x h k i same (λ d. alike (dataBlock w h k (i / 512)) (λ y. data-apart F (e / 512) (i / 512) num o (λ g. f (sym g)) there y)));
+          past = λ i a b.
+            let f = here i a b in
+            let same : dataBlock x h k (i / 512) ≡ z = rw f (still-data A (e / 512) num) in
+            file-full x h k i (λ y. there (sym same ∙ y)) ∙ rw same (clear-in w _ _ _ (omega arith) (omega arith));
+        }
