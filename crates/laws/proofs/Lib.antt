@@ -13,4 +13,6 @@ pub mod Room
 pub mod Data
 pub mod Need
 pub mod Pour
+pub mod Near
+pub mod Noted
 pub mod Entry
