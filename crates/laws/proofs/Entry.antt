@@ -1,35 +1,38 @@
 -- A call on one file: from a sound volume to its tree, and from a move of the tree and the entry's new bytes to a sound volume.
-use Prim.Native.Nat.{ℕ, zero, suc, _+_, _-_, _*_, _≤_, _<_, _/_, _%_, max}
+use Prim.Native.Nat.{ℕ, zero, suc, _+_, _-_, _*_, _≤_, _<_, _/_, _%_}
 use mathlib.Core.Path.{_≡_, refl, sym, ap, _∙_}
 use mathlib.Core.List.{List, [], _∷_, _++_}
 use mathlib.Core.Bool.{Bool, true, false}
-use lib.Dec.{leb, ltb, eqb}
+use lib.Dec.{leb}
 use lib.ListN.{length}
 use native.Mathlib.Omega.{arith}
 use native.Mathlib.Nat.{add-zero, add-assoc}
-use borrow.Author.Tests.{eqb-true, eqb-false, eq-eqb, lt-leb, leb-true, leb-false}
-use Rattle.model.specs.Bytes.{Bytes, Octets, sum, count, run, is, one-if, ne, unless, put, paste, digit, word, long, putWord, putLong}
-use Rattle.model.specs.Names.{capitalName, alike, properName, nameBytes, nameByte, capital, capitals, nameSize}
-use Rattle.model.specs.Map.{mapBlocks, free, room, restClear}
+use borrow.Author.Tests.{lt-leb}
+use Rattle.model.specs.Bytes.{Bytes, Octets, sum, count, run, is, one-if}
+use Rattle.model.specs.Names.{capitalName}
+use Rattle.model.specs.Map.{mapBlocks, free, restClear}
 use Rattle.model.specs.Kinds.{kindFor, kindNumber}
-use Rattle.model.specs.Directory.{Sort, inactive, directory, improper, file, sortOf, sort, isActive, live, at, directoryType, mapPlace, mapBlock, volume, volumeBlock, activeCount, field, ftype, key, used, eof, access, directoryKey, kids}
-use Rattle.model.specs.File.{Node, nodes, blocksIn, blocksOf, blocks, span, heightFor, above}
-use Rattle.model.specs.Sound.{outside, late, twinsOf, twins, fileFaults, entryFaults, faultsOf, faults}
-use Rattle.model.specs.Calls.{putStamp, stampBytes, backedUp}
+use Rattle.model.specs.declared.Kind.{Kind}
+use Rattle.model.specs.declared.Kind.the-variants.{Seedling, Sapling, Tree}
+use Rattle.model.specs.Directory.{Sort, directory, file, sort, isActive, at, directoryType, mapPlace, volume, volumeBlock, field, ftype, key, used, eof, directoryKey, kids}
+use Rattle.model.specs.File.{nodes, blocks, span, heightFor}
+use Rattle.model.specs.Sound.{outside, late, twins, fileFaults, faultsOf, faults}
 use Rattle.model.specs.Write.{noted}
 use Rattle.model.specs.declared.Stamp.{Stamp}
-use Rattle.model.proofs.BitLaws.{is-yes, is-no, same-free, same-rest}
-use Rattle.model.proofs.ByteLaws.{put-at, put-off, paste-out, putWord-out, putLong-out, word-putWord, long-putLong, word-same, long-same, equal-cong, octets-put, octets-paste, octets-putWord, octets-putLong, long-bound, digit-bound}
-use Rattle.model.proofs.SumLaws.{is-self, is-eq, sum-eq, count-none, run-has}
+use Rattle.model.proofs.BitLaws.{is-yes, is-no, MapSame, same-free, same-rest}
+use Rattle.model.proofs.ByteLaws.{at-or-off, word-same, long-bound}
+use Rattle.model.proofs.SumLaws.{is-self, count-none, run-has}
 use Rattle.laws.proofs.Total.{total-one}
-use Rattle.laws.proofs.Frame.{at-inj, at-block, at-head, at-place, Alike, Named, nodes-same}
+use Rattle.laws.proofs.Frame.{at-block, at-place, Alike}
 use Rattle.laws.proofs.Sound.{deep, top, sums, fixed, mine, Sound}
-use Rattle.laws.proofs.Keep.{sort-at, field-at, eof-at, ftype-at, file-blocks}
-use Rattle.laws.proofs.Facts.{Seen, FileRight, EntryRight, seen-file, kid-right, mine-in, mine-once, mine-map, mine-apart, own-mine, placed-apart, directory-key, seen-directory}
-use Rattle.laws.proofs.One.{leaf, file-directory, Place, slot-placed, slot-mine, head-mine, slot-head, Touch, in-slot, in-file, Apart, Others, Step, Change, one-entry, one-directory, one-sound, one-others, one-seen}
-use Rattle.laws.proofs.Weigh.{weigh, each, tardy, has, size, has-key, weigh-zero, weigh-same, nodes-count, nodes-length, blocks-length, nodes-late, nodes-outside}
-use Rattle.laws.proofs.Move.{Off, map-low, map-alike, Fit, Move, move-fit, fit-key, fit-off}
+use Rattle.laws.proofs.Keep.{field-at, eof-at, ftype-at, file-blocks}
+use Rattle.laws.proofs.Facts.{FileRight, EntryRight, seen-file, kid-right, mine-in, mine-once, mine-map, mine-apart, placed-apart, directory-key, seen-directory}
+use Rattle.laws.proofs.One.{leaf, file-directory, Place, slot-placed, slot-mine, head-mine, slot-head, Touch, in-slot, in-file, Apart, Others, Step, Change, one-entry, one-directory, one-sound, one-others}
+use Rattle.laws.proofs.Weigh.{Gauge, weigh, each, tardy, has, size, weigh-zero, weigh-same, nodes-count, nodes-length, blocks-length, nodes-late, nodes-outside}
+use Rattle.laws.proofs.Move.{by-zero, map-low, map-alike, Fit, Move, move-fit, fit-key}
 use Rattle.laws.proofs.Room.{size-most}
+use Rattle.laws.proofs.Near.{Near, named-near, capital-near, twins-near}
+use Rattle.laws.proofs.Noted.{noted-out, noted-near, noted-sort, noted-key, noted-used, noted-eof, noted-up, noted-type, noted-octets}
 
 -- a file a, of height h, in the directory d of a sound volume
 pub record Ready (n : ℕ) (v : Bytes) (a d h : ℕ) : Type 0 where
@@ -86,3 +89,172 @@ module _ {n : ℕ} {v : Bytes} {a d h : ℕ} (R : Ready n v a d h) where
 
   entry-right : EntryRight v d a
   entry-right = kid-right S d a (P .home) (P .holds) (P .inside) (rw (R .kind) refl)
+
+-- heights
+pub height-most : (e : ℕ) → heightFor e ≤ 2
+unfolding heightFor kindFor
+height-most e = go (leb e 512) (leb e 131072)
+  where
+    go : (b c : Bool) → kindNumber (elim b [ true ↦ Seedling 0 | false ↦ elim c [ true ↦ Sapling 0 | false ↦ Tree 0 ] ]) - 1 ≤ 2
+    go true c = omega arith
+    go false true = omega arith
+    go false false = omega arith
+
+-- a file without faults
+file-none : (n : ℕ) (v : Bytes) (g m d s : ℕ) → capitalName v (at s) ≡ true → directoryKey v s ≡ key v d → (ftype v s ≡ directoryType → ⊥)
+    → g ≡ heightFor (eof v s) → used v s ≡ length (blocks v s) → late (span (eof v s)) (nodes v g 0 (key v s)) ≡ 0 → outside n (blocks v s) ≡ 0
+    → faultsOf (file g) n v m d s ≡ 0
+unfolding faultsOf fileFaults
+file-none n v g m d s name up type tall few ended inside =
+    omega
+    (arith,
+      ap one-if name,
+      is-yes (directoryKey v s) (key v d) up,
+      is-no (ftype v s) directoryType type,
+      is-yes g (heightFor (eof v s)) tall,
+      is-yes (used v s) (length (blocks v s)) few)
+
+-- A move of the tree, then the entry that says so.
+module _ {n : ℕ} {v : Bytes} {a d h : ℕ} (R : Ready n v a d h) {w : Bytes} {g k : ℕ} (T : Move n v h 0 (key v a) w g 0 k) (e : ℕ) (t : Stamp)
+    (small : e < 16777216) (tall : g ≡ heightFor e) (ends : weigh (tardy (span e)) w g 0 k ≡ 0) where
+  open Ready R using (sound as S, spot as P)
+
+  abbrev pub called : Bytes
+  called = noted w a g k e t
+
+  low : g ≤ 2
+  low = rw tall (height-most e)
+
+  W : Fit n w g 0 k
+  W = move-fit (fit R) T
+
+  few : length (nodes w g 0 k) ≡ size w g 0 k
+  few = nodes-length w g 0 k
+
+  -- owned blocks that are not the file's
+  other-alike : (b : ℕ) → 1 ≤ mine v b → has v h 0 (key v a) b ≡ 0 → Alike 512 v w b
+  other-alike b m z = T .same b (mine-in S b m) (omega (arith, mine-once S b m)) (mine-map S b m)
+
+  slot-alike : (o : ℕ) → o < 39 → w (at a + o) ≡ v (at a + o)
+  slot-alike o l =
+      rw (at-place a o) (other-alike (a / 13) (slot-mine S P) (entry-apart R) (4 + 39 * (a % 13) + o) (omega arith))
+
+  away : has w g 0 k (a / 13) ≡ 0
+  away =
+      omega (arith, T .level (a / 13) (mine-in S (a / 13) (slot-mine S P)), mine-once S (a / 13) (slot-mine S P), entry-apart R)
+
+  beside : (b : ℕ) → (b ≡ a / 13 → ⊥) → Alike 512 w called b
+  beside b z j l = noted-out w a g k e t (b * 512 + j) (λ p q. z (sym (at-block a b (b * 512 + j - at a) j (omega arith) l (omega arith))))
+
+  pub in-tree : (b : ℕ) → 1 ≤ has w g 0 k b → Alike 512 w called b
+  in-tree b m = beside b (λ z. omega (arith, away, rw z at m))
+
+  pub read : (x : Gauge) → weigh x called g 0 k ≡ weigh x w g 0 k
+  read x = weigh-same x w called g 0 k in-tree
+
+  map-called : MapSame mapPlace n w called
+  map-called = map-alike n w called (λ b p q. beside b (λ z. mine-map S (a / 13) (slot-mine S P) (rw (← z) p) (rw (← z) q)))
+
+  pub called-sort : sort called a ≡ file g
+  called-sort = noted-sort w a g k e t (P .proper) low
+
+  pub called-key : key called a ≡ k
+  called-key = noted-key w a g k e t (P .proper) (omega (arith, fit-key W, S .small))
+
+  pub called-eof : eof called a ≡ e
+  called-eof = noted-eof w a g k e t (P .proper) small
+
+  called-used : used called a ≡ size w g 0 k
+  called-used = noted-used w a g k e t (P .proper) (omega (arith, few, size-most W, S .small)) ∙ few
+
+  near : Near v called (at a)
+  near =
+      let N = noted-near w a g k e t in
+      let z : w (at a) ≡ v (at a) = rw add-zero at (slot-alike 0 (omega arith)) in
+      record {
+        sized = N .sized ∙ ap (λ (x : ℕ). x % 16) z;
+        rest = λ i l. N .rest i l ∙ rw (add-assoc (at a) 1 i) (slot-alike (1 + i) (omega arith));
+      }
+
+  called-blocks : (b : ℕ) → count b (blocks called a) ≡ has w g 0 k b
+  called-blocks b = rw (file-blocks called a g called-sort, called-key) (nodes-count called g 0 k b ∙ read (each (is b)))
+
+  out : Apart v called a d
+  out b j m l off =
+      noted-out w a g k e t (b * 512 + j) (λ p q. off (in-slot p q))
+      ∙ other-alike b m (by-zero (has v h 0 (key v a) b) (λ z. z) (λ p. absurd (off (in-file (rw (own-tree R b) p) (not-directory R))))) j l
+
+  step : Step n v called a d
+  step = record { sound = S; spot = P; out = out }
+
+  -- the new entry has no faults
+  called-right : (m : ℕ) → faults n called m d a ≡ 0
+  called-right m =
+      let E = entry-right R in
+      let old = right R in
+      let name : capitalName called (at a) ≡ true = capital-near near ∙ E .name in
+      let up-w : directoryKey w a ≡ directoryKey v a =
+        field-at w a 0x25 volumeBlock (P .proper)
+        ∙ word-same w v _ _ (slot-alike 0x25 (omega arith)) (rw (add-assoc (at a) 0x25 1) (slot-alike 0x26 (omega arith)))
+        ∙ sym (field-at v a 0x25 volumeBlock (P .proper)) in
+      let up : directoryKey called a ≡ key called d = noted-up w a g k e t (P .proper) ∙ up-w ∙ E .up ∙ sym (one-directory step) in
+      let type : ftype called a ≡ ftype v a =
+        noted-type w a g k e t (P .proper)
+        ∙ ftype-at w a (P .proper)
+        ∙ slot-alike 0x10 (omega arith)
+        ∙ sym (ftype-at v a (P .proper)) in
+      let long-blocks : length (blocks called a) ≡ size w g 0 k =
+        rw (file-blocks called a g called-sort, called-key) (blocks-length called g 0 k ∙ read (each (λ _. 1))) in
+      let in-range : outside n (blocks called a) ≡ 0 =
+        rw (file-blocks called a g called-sort, called-key)
+        (nodes-outside called g 0 k n
+        ∙ read (each (λ b. one-if (leb n b)))
+        ∙ weigh-zero (each (λ b. one-if (leb n b))) w g 0 k (λ _ _ b s. rw (lt-leb n b (T .range b s)) refl)) in
+      rw called-sort
+      (file-none n called g m d a name up (λ z. old .typed (sym type ∙ z)) (rw called-eof tall) (called-used ∙ sym long-blocks)
+      (rw (called-key, called-eof) (nodes-late called g 0 k (span e) ∙ read (tardy (span e)) ∙ ends)) in-range)
+
+  -- the directory's count of entries
+  head-kept : (j : ℕ) → 37 ≤ j → j < 39 → called (key v d * 512 + j) ≡ v (key v d * 512 + j)
+  head-kept j p q =
+      noted-out w a g k e t _ (slot-head S P d j (P .home) (P .holds) (omega arith) (omega arith))
+      ∙ other-alike (key v d) (head-mine S P)
+      (by-zero (has v h 0 (key v a) (key v d)) (λ z. z) (λ m.
+        absurd
+        (not-directory R
+        (rw (mine-apart S a d (key v d) (P .seen) (P .home) (rw (own-tree R (key v d)) m) (directory-key S d (P .home) (P .holds))) (P .holds)))))
+      j (omega arith)
+
+  change : Change n v called a d 0 [] [] []
+  change =
+      record {
+        step = step;
+        old = leaf v a (not-directory R);
+        new = leaf called a (λ z. file-directory (sym called-sort ∙ z));
+        off = λ s m. absurd (count-none s m);
+        off′ = λ s m. absurd (count-none s m);
+        held = λ x m. absurd (count-none x m);
+        level = omega arith;
+        entry = λ m. omega (arith, called-right m);
+        counted =
+          rw (called-sort, R .kind)
+          (ap (λ (x : ℕ). x + 1)
+          (word-same called v _ _ (head-kept 37 (omega arith) (omega arith))
+          (rw (add-assoc (key v d * 512) 37 1) (head-kept 38 (omega arith) (omega arith)))));
+        unlike =
+          twins-near v called (kids v d) (λ s c. at-or-off s a
+          (λ z. rw z (rw (called-sort, R .kind) refl, near))
+          (λ z. let o = one-entry step d s (P .home) c z in (ap isActive (o .0), named-near (o .1))))
+          ∙ seen-directory S d (P .home) (P .holds) .unlike;
+        balance = λ b l. omega (arith, called-blocks b, own-tree R b, T .level b l, same-free mapPlace n w called map-called b l);
+        rest = same-rest mapPlace n w called map-called (T .rest);
+      }
+
+  pub called-sound : Sound n called
+  called-sound = one-sound change
+
+  pub called-others : Others v called a
+  called-others = one-others change
+
+  pub called-octets : Octets called
+  called-octets = noted-octets w a g k e t low (T .bytes)
