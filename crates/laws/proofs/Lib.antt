@@ -16,3 +16,4 @@ pub mod Pour
 pub mod Near
 pub mod Noted
 pub mod Entry
+pub mod Grown
