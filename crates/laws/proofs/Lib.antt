@@ -6,3 +6,4 @@ pub mod Sound
 pub mod Keep
 pub mod Facts
 pub mod One
+pub mod Spelling
