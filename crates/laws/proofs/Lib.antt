@@ -7,3 +7,4 @@ pub mod Keep
 pub mod Facts
 pub mod One
 pub mod Spelling
+pub mod Lookup
