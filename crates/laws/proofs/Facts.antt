@@ -264,6 +264,9 @@ module _ {n : ℕ} {v : Bytes} (S : Sound n v) where
   unfolding sum
   mine-map b h p q = omega (arith, mine-once b h, run-has (mapBlocks n) mapPlace b p q)
 
+  pub mine-off : (b j : ℕ) → 1 ≤ mine v b → j < 512 → mapPlace * 512 ≤ b * 512 + j → b * 512 + j < mapPlace * 512 + mapBlocks n * 512 → ⊥
+  mine-off b j h l p q = mine-map b h (omega arith) (omega arith)
+
   -- the blocks of visited entries lie on the volume
   pub block-inside : (x b : ℕ) → Seen v x → 1 ≤ count b (blocks v x) → Inside n b
   block-inside x b h c = let m = own-mine x b h c in record { fits = mine-in b m; high = mine-low b m; off = mine-map b m }

@@ -8,3 +8,6 @@ pub mod Facts
 pub mod One
 pub mod Spelling
 pub mod Lookup
+pub mod Settled
+pub mod Relabel
+pub mod Info

@@ -9,7 +9,7 @@ use native.Mathlib.Omega.{arith}
 use native.Mathlib.Nat.{add-zero, add-assoc}
 use borrow.Author.Tests.{eqb-true, eqb-false, eq-eqb, ne-eqb, ltb-true, ltb-false}
 use Rattle.model.specs.Bytes.{Bytes, sum, count, is, ne, word, _and_}
-use Rattle.model.specs.Map.{free, restClear}
+use Rattle.model.specs.Map.{mapBlocks, free, restClear}
 use Rattle.model.specs.Directory.{Sort, inactive, directory, improper, file, sort, live, at, volume, volumeBlock, mapPlace, mapBlock, totalBlocks, previous, activeCount, key, field, slotsBelow, kids, active}
 use Rattle.model.specs.File.{blocksOf, blocks}
 use Rattle.model.specs.Sound.{prodos, twins, faultsOf, faults}
@@ -21,7 +21,7 @@ use Rattle.laws.proofs.Grow.{core-le, core-eq, never, Way, way-step, wa
 use Rattle.laws.proofs.Frame.{at-inj, at-link, at-block, at-place, at-head, Alike, Named, word-in, previous-in, twins-same}
 use Rattle.laws.proofs.Sound.{deep, top, sums, fixed, mine, Sound}
 use Rattle.laws.proofs.Keep.{Fields, Head, Keeps, head-word, head-late, map-same, misnamed-same, badge-same, sort-named, key-same, blocks-same, kids-same, faults-same}
-use Rattle.laws.proofs.Facts.{kid-seen, kid-proper, kid-block, Seen, Placed, seen-placed, kid-placed, kid-once, placed-mine, placed-head, placed-apart, own-mine, seen-once, mine-map, mine-apart, one-parent, directory-key, seen-directory, volume-seen, volume-directory}
+use Rattle.laws.proofs.Facts.{kid-seen, kid-proper, kid-block, Seen, Placed, seen-placed, kid-placed, kid-once, placed-mine, placed-head, placed-apart, own-mine, seen-once, mine-off, mine-apart, one-parent, directory-key, seen-directory, volume-seen, volume-directory}
 
 -- an entry with no slots below it
 pub leaf : (v : Bytes) (s : ℕ) → (sort v s ≡ directory → ⊥) → kids v s ≡ []
@@ -68,6 +68,13 @@ module _ {n : ℕ} {v : Bytes} {a d : ℕ} (S : Sound n v) (P : Place v a d) whe
   slot-head x j k e g h p q =
       placed-head S a x slot-placed k e
       (at-inj a (key v x * 13) (key v x * 512 + j - at a) (j - 4) (omega arith) (omega arith) (omega (arith, at-head (key v x) (j - 4))))
+
+  -- a byte of the map is in no slot
+  pub slot-map : (i : ℕ) → mapPlace * 512 ≤ i → i < mapPlace * 512 + mapBlocks n * 512 → at a ≤ i → i < at a + 39 → ⊥
+  slot-map i g h p q =
+      let o : ℕ = i - at a in
+      let e : i ≡ a / 13 * 512 + (4 + 39 * (a % 13) + o) = omega (arith, at-place a o) in
+      mine-off S (a / 13) (4 + 39 * (a % 13) + o) slot-mine (omega arith) (rw e at g) (rw e at h)
 
 -- The bytes of owned blocks that may change: the slot a, the count of d; of a's own blocks all if a is no directory, else links and header.
 pub data Touch (v : Bytes) (a d b j : ℕ) : Type 0 where
