@@ -46,9 +46,7 @@ module _ {n : ℕ} {v : Bytes} {a d : ℕ} (access aux : ℕ) (t : Stamp) (S : S
   set-relabels : Relabels n v set a d
   set-relabels =
       record {
-        sound = S;
-        spot = P;
-        out = λ i _ h _. info-out v a access aux t i h;
+        marks = record { sound = S; spot = P; out = λ i _ h _. info-out v a access aux t i h };
         sorted = sort-named v set a (set-name a);
         named = omega (arith, misnamed-same v set a (set-name a));
         badged = λ e. omega (arith, badge-same v set a (key v a) (set-name a) (set-head e));

@@ -11,3 +11,4 @@ pub mod Lookup
 pub mod Settled
 pub mod Relabel
 pub mod Info
+pub mod Rename

@@ -18,21 +18,24 @@ use Rattle.laws.proofs.Keep.{Keeps, HeadFrom, misnamed, badge, key-same
 use Rattle.laws.proofs.Facts.{Seen, mine-off, own-mine, mine-apart, kid-block, directory-key}
 use Rattle.laws.proofs.One.{Place, Touch, in-slot, in-head, Apart, Step, Change, Others, file-directory, slot-head, slot-map, one-sound, one-others, one-apart, one-directory, one-active, one-twins}
 
-pub record Relabels (n : ℕ) (v v′ : Bytes) (a d : ℕ) : Type 0 where
+pub record Marks (n : ℕ) (v v′ : Bytes) (a d : ℕ) : Type 0 where
   pub sound : Sound n v
   pub spot : Place v a d
   pub out : (i : ℕ) → (at a ≤ i → i < at a + 16 → ⊥) → (at a + 30 ≤ i → i < at a + 37 → ⊥)
     → (sort v a ≡ directory → key v a * 512 + 4 ≤ i → i < key v a * 512 + 20 → ⊥) → v′ i ≡ v i
+
+pub record Relabels (n : ℕ) (v v′ : Bytes) (a d : ℕ) : Type 0 where
+  pub marks : Marks n v v′ a d
   pub sorted : sort v′ a ≡ sort v a
   pub named : misnamed v′ a ≤ misnamed v a
   pub badged : sort v a ≡ directory → badge v′ a (key v a) ≤ badge v a (key v a)
   pub unlike : twins v′ (kids v d) ≡ 0
 
-module _ {n : ℕ} {v v′ : Bytes} {a d : ℕ} (R : Relabels n v v′ a d) where
-  open Relabels R using (sound as S, spot as P, out)
+module _ {n : ℕ} {v v′ : Bytes} {a d : ℕ} (M : Marks n v v′ a d) where
+  open Marks M using (sound as S, spot as P, out)
 
-  relabel-step : Step n v v′ a d
-  relabel-step =
+  pub marks-step : Step n v v′ a d
+  marks-step =
       record {
         sound = S;
         spot = P;
@@ -40,6 +43,13 @@ module _ {n : ℕ} {v v′ : Bytes} {a d : ℕ} (R : Relabels n v v′ a d) wher
           out (b * 512 + j) (λ p q. no (in-slot p (omega arith))) (λ p q. no (in-slot (omega arith) (omega arith)))
           (λ e p q. no (in-head e (omega arith) (omega arith)));
       }
+
+module _ {n : ℕ} {v v′ : Bytes} {a d : ℕ} (R : Relabels n v v′ a d) where
+  open Relabels R using (marks)
+  open Marks marks using (sound as S, spot as P, out)
+
+  abbrev relabel-step : Step n v v′ a d
+  relabel-step = marks-step marks
 
   -- what is in no slot and in no name of a header
   far : (b j : ℕ) → j < 512 → (at a ≤ b * 512 + j → b * 512 + j < at a + 39 → ⊥) → (sort v a ≡ directory → b ≡ key v a → 4 ≤ j → j < 20 → ⊥)
