@@ -11,14 +11,15 @@ use borrow.Author.Tests.{eqb-true, eqb-false, eq-eqb, ne-eqb}
 use Rattle.model.specs.Bytes.{Bytes, sum, count, is, ne, unless, put, paste, word, _and_}
 use Rattle.model.specs.Names.{Part, part, parts, properPath, properName, capitalName, nameSize, sameName, alike}
 use Rattle.model.specs.Map.{mapBlocks}
-use Rattle.model.specs.Directory.{Sort, inactive, directory, improper, file, sort, isActive, live, at, volume, volumeBlock, mapPlace, headerKind, activeCount, key, field, access, kids, active, seek}
+use Rattle.model.specs.Directory.{Sort, inactive, directory, improper, file, sort, isActive, live, at, volume, volumeBlock, mapPlace, previous, headerKind, headerSlotSize, headerSlots, totalBlocks, activeCount, key, field, access, kids, active, seek}
 use Rattle.model.specs.File.{blocks}
 use Rattle.model.specs.Calls.{total, target, spot, home, lastPart, nameField, backedUp}
 use Rattle.model.specs.Rename.{named, headerNamed, renamed, isOther, nameTaken, renameNumber, rename}
 use Rattle.model.specs.Sound.{sound, twins, faults, prodos}
 use Rattle.model.proofs.ByteLaws.{put-off, paste-at, paste-out, word-same, at-or-off}
 use Rattle.model.proofs.BitLaws.{MapSame, same-free, same-rest}
-use Rattle.laws.proofs.Total.{total-le, total-eq}
+use Rattle.model.proofs.SumLaws.{sum-eq}
+use Rattle.laws.proofs.Total.{reach, total-le, total-eq, Edge, root, child}
 use Rattle.laws.proofs.Frame.{at-inj, at-link, at-place, at-head, at-block, Named, Alike, previous-in, twins-same}
 use Rattle.laws.proofs.Sound.{and-left, and-right, deep, top, Sound, sound-facts, facts-sound}
 use Rattle.laws.proofs.Keep.{Keeps, Head, HeadFrom, head-word, head-late, map-same, misnamed, badge, misnamed-same, badge-same, sort-same, sort-named, key-same, blocks-same, kids-same, faults-same}
@@ -197,7 +198,7 @@ module _ {n : ℕ} {v : Bytes} (q : Bytes) (j : ℕ) (S : Sound n v) (proper : p
       (λ f.
         let inside : (s : ℕ) → 1 ≤ count s (kids v x) → (sort after s ≡ sort v s) × Named v after (at s) = λ s c. after-name s (kid-placed S x s h c) in
         rw
-        (Rattle.model.proofs.SumLaws.sum-eq (λ s. live (sort after s)) (λ s. live (sort v s)) (kids v x) (λ s c. ap live (inside s c .0)),
+        (sum-eq (λ s. live (sort after s)) (λ s. live (sort v s)) (kids v x) (λ s c. ap live (inside s c .0)),
           twins-same v after (kids v x) inside,
           after-count x)
         (omega arith))
@@ -206,3 +207,101 @@ module _ {n : ℕ} {v : Bytes} (q : Bytes) (j : ℕ) (S : Sound n v) (proper : p
       after-count x =
           word-same after v (key v x * 512 + 0x25) (key v x * 512 + 0x25) (after-block (key v x) 37 (omega arith) (λ _ p r. omega arith))
           (rw (add-assoc (key v x * 512) 37 1) (after-block (key v x) 38 (omega arith) (λ _ p r. omega arith)))
+
+  edge-key : (r x : ℕ) → Edge (kids v) deep volume top r x → key after r ≡ key v r
+  edge-key r x (root e c) = rw e (unfold field in refl)
+  edge-key r x (child h c) = after-key r h
+
+  after-sign : prodos n after ≡ prodos n v
+  unfolding prodos at
+  after-sign =
+      let one : (k : ℕ) → k < 512 → (4 ≤ k → k < 20 → ⊥) → after (volumeBlock * 512 + k) ≡ v (volumeBlock * 512 + k) =
+        λ k l f. after-block volumeBlock k l (λ _. f) in
+      rw
+      (previous-in v after volumeBlock (λ k l. one k (omega arith) (λ p r. omega arith)),
+        after-bears .1,
+        one 0x23 (omega arith) (λ p r. omega arith),
+        one 0x24 (omega arith) (λ p r. omega arith),
+        head-word v after volumeBlock 0x29 (λ k g l _. one k (omega arith) (λ p r. omega arith)) (omega arith) (omega arith) (λ p r. omega arith))
+      refl
+
+  after-map : MapSame mapPlace n v after
+  after-map i g h = after-out i (λ p r. omega arith)
+
+  pub after-sound : Sound n after
+  after-sound =
+      record {
+        large = S .large;
+        small = S .small;
+        sign = after-sign ∙ S .sign;
+        place = map-same v after (λ k g l _. after-block volumeBlock k (omega arith) (λ _ p r. omega arith)) ∙ S .place;
+        right = omega
+          (arith,
+            S .right,
+            total-le (kids v) (kids after) (faults n v) (faults n after) deep volume top
+            (λ m r x h e. (kids-same v after x (after-keeps x h), after-faults m r x h (edge-key r x e))));
+        once = λ b l.
+          rw
+          (total-eq (kids v) (kids after) (λ _ _ s. count b (blocks v s)) (λ _ _ s. count b (blocks after s)) deep volume top
+            (λ m r x h. (kids-same v after x (after-keeps x h), ap (count b) (blocks-same v after x (after-keeps x h)))),
+            same-free mapPlace n v after after-map b l)
+          (S .once b l);
+        rest = same-rest mapPlace n v after after-map (S .rest);
+      }
+
+  pub after-others : Others v after volume
+  after-others x h s k e =
+      let K = after-keeps x s in
+      record {
+        seen = omega (arith, s, total-eq (kids v) (kids after) (λ _ _ y. is x y) (λ _ _ y. is x y) deep volume top (λ m r y g. (kids-same v after y (after-keeps y g), refl)));
+        entry = after-slot x (seen-placed S x s k);
+        sorted = K .sorted;
+        owns = blocks-same v after x K;
+        bytes = K .trees h e;
+      }
+
+-- The call.
+module _ (len : ℕ) (v p : Bytes) (k : ℕ) (q : Bytes) (j : ℕ) (S : sound (total len) v ≡ true) where
+  abbrev there : ℕ
+  there = spot (target v p k)
+
+  Right : Bytes → Type 0
+  Right w = (sound (total len) w ≡ true) × Others v w there
+
+  done : renameNumber len v p k q j (target v p k) ≡ 0 → Right (renamed v there q j)
+  unfolding renameNumber Right
+  done e =
+      let facts = sound-facts (total len) v S in
+      let r₁ = first-zero _ _ e (λ z. omega arith) in
+      let r₂ = first-zero _ _ (r₁ .1) (λ z. omega arith) in
+      let r₃ = first-zero _ _ (r₂ .1) (λ z. omega arith) in
+      let r₄ = first-zero _ _ (r₃ .1) (λ z. omega arith) in
+      let r₅ = first-zero _ _ (r₄ .1) (λ z. omega arith) in
+      let r₆ = first-zero _ _ (r₅ .1) (λ z. omega arith) in
+      let r₇ = first-zero _ _ (r₆ .1) (λ z. omega arith) in
+      let proper : properName q 0 j ≡ true = and-right _ _ (not-false _ (r₃ .0)) in
+      at-or-off there volume
+      (λ z. rw (whole z) (facts-sound (after-sound q j facts proper), rw z (after-others q j facts proper)))
+      (λ z.
+        let E = entry-led facts (target-led facts p k) (r₄ .0) (r₅ .0) (r₆ .0) z in
+        let R = now-relabels q j facts (E .spot) (E .alive) proper (open-name z (r₇ .0)) in
+        (facts-sound (relabel-sound R), relabel-others R))
+    where
+      whole : there ≡ volume → renamed v there q j ≡ named v (at volume) q j
+      whole z = unfold renamed in rw (eq-eqb there volume z, renamed) refl
+
+      open-name : (there ≡ volume → ⊥) → nameTaken v (home (target v p k)) there q j ≡ false
+          → isOther there (seek v q (part 0 j) (kids v (home (target v p k)))) ≡ false
+      open-name z f = unfold nameTaken _and_ in (rw (ne-eqb there volume z) at f)
+
+  kept : Right (rename len v p k q j .image)
+  unfolding rename Right
+  kept = settled _ _ v _ _ Right (S, others-self v there) done
+
+  pub rename-sound : sound (total len) (rename len v p k q j .image) ≡ true
+  unfolding Right
+  rename-sound = kept .0
+
+  pub rename-others : Others v (rename len v p k q j .image) (spot (target v p k))
+  unfolding Right
+  rename-others = kept .1
