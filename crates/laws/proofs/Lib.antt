@@ -12,3 +12,4 @@ pub mod Settled
 pub mod Relabel
 pub mod Info
 pub mod Rename
+pub mod Destroy
