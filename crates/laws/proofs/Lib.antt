@@ -13,3 +13,4 @@ pub mod Relabel
 pub mod Info
 pub mod Rename
 pub mod Destroy
+pub mod Most
