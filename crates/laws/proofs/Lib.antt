@@ -14,3 +14,5 @@ pub mod Info
 pub mod Rename
 pub mod Destroy
 pub mod Most
+pub mod Fresh
+pub mod Create

@@ -25,18 +25,10 @@ use Rattle.laws.proofs.Sound.{and-left, and-right, deep, top, Sound, so
 use Rattle.laws.proofs.Keep.{Keeps, Head, HeadFrom, head-word, head-late, map-same, misnamed, badge, misnamed-same, badge-same, sort-same, sort-named, key-same, blocks-same, kids-same, faults-same}
 use Rattle.laws.proofs.Facts.{Seen, Placed, seen-placed, kid-placed, placed-head, placed-proper, kid-once, mine-apart, directory-key, seen-directory, volume-seen, volume-directory}
 use Rattle.laws.proofs.One.{Place, Others, slot-head, file-directory, one-entry}
-use Rattle.laws.proofs.Spelling.{Bears, same-bears, bears-same, bears-capital, bears-alike, alike-bears, alike-back, stored, twins-two, twins-change}
+use Rattle.laws.proofs.Spelling.{Bears, same-bears, bears-same, bears-capital, bears-alike, alike-bears, alike-back, bears-named, stored, twins-two, twins-change}
 use Rattle.laws.proofs.Relabel.{Marks, marks-step, Relabels, relabel-sound, relabel-others}
 use Rattle.laws.proofs.Lookup.{first-zero, not-false, seek-some, seek-none, name-size, Entry, entry-led, target-led}
 use Rattle.laws.proofs.Settled.{settled, others-self}
-
--- what a name that stays bears
-bears-named : (v v′ : Bytes) (b : ℕ) (q : Bytes) (x : Part) → x .size < 16 → Named v v′ b → Bears v′ b q x → Bears v b q x
-bears-named v v′ b q x s f B =
-    record {
-      sized = rw (← rw add-zero at (f 0 (omega arith))) (B .sized);
-      spelled = λ i l. sym (rw (add-assoc b 1 i) (f (1 + i) (omega arith))) ∙ B .spelled i l;
-    }
 
 -- no other active entry has a name that is not taken
 other-free : (s : ℕ) (o : Option ℕ) → isOther s o ≡ false → (u : ℕ) → o ≡ some u → u ≡ s

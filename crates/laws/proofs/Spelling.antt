@@ -157,6 +157,14 @@ module _ (v : Bytes) (a : ℕ) (p : Bytes) (x : Part) where
           ∙ paste-in zeros 1 (x .size) (from (capitals p) (x .start)) (1 + i) (omega arith) (omega arith)
           ∙ ap (λ j. capital (p (x .start + j))) e)
 
+-- what a name that stays bears
+pub bears-named : (v v′ : Bytes) (b : ℕ) (q : Bytes) (x : Part) → x .size < 16 → Named v v′ b → Bears v′ b q x → Bears v b q x
+bears-named v v′ b q x s f B =
+    record {
+      sized = rw (← rw add-zero at (f 0 (omega arith))) (B .sized);
+      spelled = λ i l. sym (rw (add-assoc b 1 i) (f (1 + i) (omega arith))) ∙ B .spelled i l;
+    }
+
 -- Twins.
 not-both : (p q : Bool) → (p ≡ true → q ≡ true → ⊥) → one-if (p and q) ≡ 0
 unfolding _and_
@@ -166,6 +174,12 @@ not-both false q f = refl
 
 both-one : (p q : Bool) → p ≡ true → q ≡ true → 1 ≤ one-if (p and q)
 both-one p q e f = rw (and-both p q e f) (omega arith)
+
+-- inactive entries have no twins
+pub twins-off : (v : Bytes) (ss : List ℕ) → ((s : ℕ) → 1 ≤ count s ss → isActive (sort v s) ≡ false) → twins v ss ≡ 0
+unfolding twins sum
+twins-off v [] f = refl
+twins-off v (s ∷ ss) f = rw (f s (omega (arith, is-self s)), twins) (twins-off v ss (λ t c. f t (omega arith)))
 
 -- two active entries with names that are alike
 pub twins-two : (v : Bytes) (s t : ℕ) (ss : List ℕ) → (s ≡ t → ⊥) → 1 ≤ count s ss → 1 ≤ count t ss → isActive (sort v s) ≡ true
