@@ -97,7 +97,7 @@ pub badge-same : (v v′ : Bytes) (s k : ℕ) → Named v v′ (at s) → Head v
 badge-same v v′ s k f g =
     rw (alike-same v v′ (k * 512 + 4) (at s) (head-name v v′ k g) f, g 4 (omega arith) (omega arith) (λ p q. omega arith)) refl
 
-header-le : (v v′ : Bytes) (s k : ℕ) → HeadFrom 20 v v′ k → badge v′ s k ≤ badge v s k → headerFaults v′ s k ≤ headerFaults v s k
+pub header-le : (v v′ : Bytes) (s k : ℕ) → HeadFrom 20 v v′ k → badge v′ s k ≤ badge v s k → headerFaults v′ s k ≤ headerFaults v s k
 unfolding headerFaults
 header-le v v′ s k f g =
     let one : (j : ℕ) → 20 ≤ j → j < 43 → (37 ≤ j → j < 39 → ⊥) → v′ (k * 512 + j) ≡ v (k * 512 + j) = f in

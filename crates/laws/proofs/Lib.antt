@@ -16,3 +16,4 @@ pub mod Destroy
 pub mod Most
 pub mod Fresh
 pub mod Create
+pub mod Extend

@@ -1,7 +1,7 @@
 -- Names as they are given and as they are stored, and twins where one entry of a directory has another name.
 use Prim.Native.Nat.{ℕ, zero, suc, _+_, _-_, _*_, _≤_, _<_, _/_, _%_}
 use mathlib.Core.Path.{_≡_, refl, sym, ap, _∙_}
-use mathlib.Core.List.{List, [], _∷_}
+use mathlib.Core.List.{List, [], _∷_, _++_}
 use mathlib.Core.Bool.{Bool, true, false, false≢true}
 use lib.Dec.{leb, ltb, eqb}
 use native.Mathlib.Omega.{arith}
@@ -14,7 +14,7 @@ use Rattle.model.specs.Sound.{twinsOf, twins}
 use Rattle.model.specs.Calls.{nameField}
 use Rattle.model.proofs.ByteLaws.{put-at, put-off, paste-in, equal-at, equal-all}
 use Rattle.model.proofs.BitLaws.{is-no}
-use Rattle.model.proofs.SumLaws.{is-self, sum-mem, sum-zero}
+use Rattle.model.proofs.SumLaws.{is-self, sum-append, sum-mem, sum-zero}
 use Rattle.laws.proofs.Frame.{Named, alike-same, twins-same}
 use Rattle.laws.proofs.Sound.{and-left, and-right, and-both}
 
@@ -180,6 +180,15 @@ pub twins-off : (v : Bytes) (ss : List ℕ) → ((s : ℕ) → 1 ≤ count s ss 
 unfolding twins sum
 twins-off v [] f = refl
 twins-off v (s ∷ ss) f = rw (f s (omega (arith, is-self s)), twins) (twins-off v ss (λ t c. f t (omega arith)))
+
+pub twins-append : (v : Bytes) (ss tt : List ℕ) → ((s : ℕ) → 1 ≤ count s tt → isActive (sort v s) ≡ false) → twins v (ss ++ tt) ≡ twins v ss
+unfolding twins twinsOf sum _and_
+twins-append v [] tt f = twins-off v tt f
+twins-append v (s ∷ ss) tt f =
+    let more : sum (λ t. one-if (isActive (sort v t) and alike v (at s) (at t))) tt ≡ 0 = sum-zero _ tt (λ t c. rw (f t c) refl) in
+    let x : twinsOf v s (ss ++ tt) ≡ twinsOf v s ss = omega (arith, more, sum-append (λ t. one-if (isActive (sort v t) and alike v (at s) (at t))) ss tt) in
+    let y = twins-append v ss tt f in
+    λ i. elim (isActive (sort v s)) [ true ↦ x i + y i | false ↦ y i ]
 
 -- two active entries with names that are alike
 pub twins-two : (v : Bytes) (s t : ℕ) (ss : List ℕ) → (s ≡ t → ⊥) → 1 ≤ count s ss → 1 ≤ count t ss → isActive (sort v s) ≡ true
