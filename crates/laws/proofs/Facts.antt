@@ -11,7 +11,7 @@ use borrow.Author.Tests.{eqb-true, eqb-false, le-leb, ltb-true, ltb-false}
 use Rattle.model.specs.Bytes.{Bytes, sum, count, run, is, one-if, ne, unless}
 use Rattle.model.specs.Names.{capitalName}
 use Rattle.model.specs.Map.{mapBlocks, free}
-use Rattle.model.specs.Directory.{Sort, inactive, directory, improper, file, sort, isActive, live, at, directoryType, mapPlace, volume, activeCount, ftype, key, used, eof, field, directoryKey, next, chain, slots, slotsBelow, kids, active}
+use Rattle.model.specs.Directory.{Sort, inactive, directory, improper, file, sort, isActive, live, at, directoryType, mapPlace, volume, volumeBlock, activeCount, ftype, key, used, eof, field, directoryKey, next, chain, slots, slotsBelow, kids, active}
 use Rattle.model.specs.File.{Node, nodes, heightFor, span, blocksIn, blocksOf, blocks}
 use Rattle.model.specs.Walk.{levelMost}
 use Rattle.model.specs.Sound.{links, twins, outside, headerFaults, topFaults, directoryFaults, late, fileFaults, entryFaults, faultsOf, faults}
@@ -56,7 +56,7 @@ level-one directory n v m q s = omega arith
 level-one improper n v m q s = omega arith
 level-one (file h) n v m q s = omega arith
 
-level-le : (n : ℕ) (v : Bytes) (m q s : ℕ) → sort v s ≡ directory → is m 0 ≤ faults n v m q s
+pub level-le : (n : ℕ) (v : Bytes) (m q s : ℕ) → sort v s ≡ directory → is m 0 ≤ faults n v m q s
 unfolding faultsOf
 level-le n v m q s e = rw e (omega arith)
 
@@ -264,6 +264,9 @@ module _ {n : ℕ} {v : Bytes} (S : Sound n v) where
   unfolding sum
   mine-map b h p q = omega (arith, mine-once b h, run-has (mapBlocks n) mapPlace b p q)
 
+  pub mine-off : (b j : ℕ) → 1 ≤ mine v b → j < 512 → mapPlace * 512 ≤ b * 512 + j → b * 512 + j < mapPlace * 512 + mapBlocks n * 512 → ⊥
+  mine-off b j h l p q = mine-map b h (omega arith) (omega arith)
+
   -- the blocks of visited entries lie on the volume
   pub block-inside : (x b : ℕ) → Seen v x → 1 ≤ count b (blocks v x) → Inside n b
   block-inside x b h c = let m = own-mine x b h c in record { fits = mine-in b m; high = mine-low b m; off = mine-map b m }
@@ -276,6 +279,10 @@ module _ {n : ℕ} {v : Bytes} (S : Sound n v) where
 
   pub directory-key : (d : ℕ) → Seen v d → sort v d ≡ directory → 1 ≤ count (key v d) (blocks v d)
   directory-key d h e = rw (directory-blocks v d e) (chain-first v (key v d) (used v d) (seen-directory d h e .some))
+
+  pub volume-mine : 1 ≤ mine v volumeBlock
+  unfolding field
+  volume-mine = own-mine volume volumeBlock volume-seen (directory-key volume volume-seen volume-directory)
 
   -- the header is no entry
   pub placed-head : (x d : ℕ) → Placed v x → Seen v d → sort v d ≡ directory → x ≡ key v d * 13 → ⊥
@@ -403,6 +410,5 @@ module _ {n : ℕ} {v : Bytes} (S : Sound n v) where
     unfolding sum
     free-map p q = omega (arith, free-fixed, run-has (mapBlocks n) mapPlace z p q)
 
-    pub free-some : z ≡ 0 → ⊥
-    unfolding sum
-    free-some e = omega (arith, free-fixed, is-yes z 0 e)
+    pub free-volume : z ≡ volumeBlock → ⊥
+    free-volume e = free-mine volumeBlock volume-mine (sym e)

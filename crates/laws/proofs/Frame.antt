@@ -13,6 +13,7 @@ use Rattle.model.specs.Names.{letter, nameByte, nameBytes, properName, capital,
 use Rattle.model.specs.Directory.{at, place, blockOf, slotOf, previous, next, chain, slots, Sort, sort, isActive}
 use Rattle.model.specs.File.{Node, node, pointer, limb, nodes, blocksIn}
 use Rattle.model.specs.Sound.{links, twinsOf, twins}
+use Rattle.model.specs.Create.{lastBlock}
 use Rattle.model.proofs.BitLaws.{is-no}
 use Rattle.model.proofs.ByteLaws.{equal-cong}
 use Rattle.model.proofs.SumLaws.{is-self, sum-append, sum-map, sum-gather, sum-mem, run-low, run-high, run-in, run-most}
@@ -128,6 +129,35 @@ pub chain-first : (v : Bytes) (k u : ℕ) → 1 ≤ u → 1 ≤ count k (chain v
 unfolding chain sum
 chain-first v k zero h = absurd (omega arith)
 chain-first v k (suc u) h = omega (arith, is-self k)
+
+pub last-in : (v : Bytes) (p k u : ℕ) → 1 ≤ u → 1 ≤ count (lastBlock v p k u) (chain v k u)
+unfolding lastBlock chain sum
+last-in v p k zero h = absurd (omega arith)
+last-in v p k (suc zero) h = omega (arith, is-self k)
+last-in v p k (suc (suc u)) h = omega (arith, last-in v k (next v k) (suc u) (omega arith))
+
+-- a chain whose last block y gets the next block z
+pub chain-more : (v v′ : Bytes) (z y p k u : ℕ) → 1 ≤ u → y ≡ lastBlock v p k u → count y (chain v k u) ≡ 1
+    → ((b : ℕ) → 1 ≤ count b (chain v k u) → ((b ≡ y → ⊥) → next v′ b ≡ next v b) × (previous v′ b ≡ previous v b))
+    → next v′ y ≡ z → previous v′ z ≡ y → next v′ z ≡ 0
+    → (chain v′ k (suc u) ≡ chain v k u ++ (z ∷ [])) × (links v′ p k (suc u) ≤ links v p k u)
+unfolding lastBlock chain links sum
+chain-more v v′ z y p k zero h e c f g i j = absurd (omega arith)
+chain-more v v′ z y p k (suc zero) h e c f g i j =
+    let n : next v′ k ≡ z = rw e at g in
+    let q : previous v′ z ≡ k = i ∙ e in
+    (rw n refl, rw (n, q, j, f k (omega (arith, is-self k)) .1, is-self k) (omega arith))
+chain-more v v′ z y p k (suc (suc u)) h e c f g i j =
+    let more : 1 ≤ count y (chain v (next v k) (suc u)) = rw e (last-in v k (next v k) (suc u) (omega arith)) in
+    let other : k ≡ y → ⊥ = λ q. omega (arith, ap (is y) q, is-self y) in
+    let rest = chain-more v v′ z y k (next v k) (suc u) (omega arith) e (omega (arith, is-no y k (λ q. other (sym q)))) (λ b l. f b (omega arith)) g i j in
+    let here = f k (omega (arith, is-self k)) in
+    (rw (here .0 other, rest .0) refl, rw (here .0 other, here .1) (omega (arith, rest .1)))
+
+pub slots-length : (bs : List ℕ) → length (slots bs) ≡ length bs * 13
+unfolding slots run
+slots-length [] = refl
+slots-length (b ∷ bs) = omega (arith, slots-length bs)
 
 -- Trees: the blocks in a list of nodes.
 pub holds : (b : ℕ) (ns : List Node) → count b (blocksIn ns) ≡ sum (λ x. is b (x .block)) ns

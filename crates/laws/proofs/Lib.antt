@@ -6,6 +6,17 @@ pub mod Sound
 pub mod Keep
 pub mod Facts
 pub mod One
+pub mod Spelling
+pub mod Lookup
+pub mod Settled
+pub mod Relabel
+pub mod Info
+pub mod Rename
+pub mod Destroy
+pub mod Most
+pub mod Fresh
+pub mod Create
+pub mod Extend
 pub mod Weigh
 pub mod Move
 pub mod Take

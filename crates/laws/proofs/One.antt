@@ -9,7 +9,7 @@ use native.Mathlib.Omega.{arith}
 use native.Mathlib.Nat.{add-zero, add-assoc}
 use borrow.Author.Tests.{eqb-true, eqb-false, eq-eqb, ne-eqb, ltb-true, ltb-false}
 use Rattle.model.specs.Bytes.{Bytes, sum, count, is, ne, word, _and_}
-use Rattle.model.specs.Map.{free, restClear}
+use Rattle.model.specs.Map.{mapBlocks, free, restClear}
 use Rattle.model.specs.Directory.{Sort, inactive, directory, improper, file, sort, live, at, volume, volumeBlock, mapPlace, mapBlock, totalBlocks, previous, activeCount, key, field, slotsBelow, kids, active}
 use Rattle.model.specs.File.{blocksOf, blocks}
 use Rattle.model.specs.Sound.{prodos, twins, faultsOf, faults}
@@ -20,8 +20,8 @@ use Rattle.laws.proofs.Total.{Weight, total, reach, total-le, total-cha
 use Rattle.laws.proofs.Grow.{core-le, core-eq, never, Way, way-step, way-level}
 use Rattle.laws.proofs.Frame.{at-inj, at-link, at-block, at-place, at-head, Alike, Named, word-in, previous-in, twins-same}
 use Rattle.laws.proofs.Sound.{deep, top, sums, fixed, mine, Sound}
-use Rattle.laws.proofs.Keep.{Same, Head, Keeps, head-word, map-same, name-same, sort-same, key-same, blocks-same, kids-same, faults-same}
-use Rattle.laws.proofs.Facts.{kid-seen, kid-proper, kid-block, Seen, Placed, seen-placed, kid-placed, kid-once, placed-mine, placed-head, placed-apart, own-mine, seen-once, mine-map, mine-apart, one-parent, directory-key, seen-directory, volume-seen, volume-directory}
+use Rattle.laws.proofs.Keep.{Fields, Head, Keeps, head-word, head-late, map-same, misnamed-same, badge-same, sort-named, key-same, blocks-same, kids-same, faults-same}
+use Rattle.laws.proofs.Facts.{kid-seen, kid-proper, kid-block, Seen, Placed, seen-placed, kid-placed, kid-once, placed-mine, placed-head, placed-apart, own-mine, seen-once, mine-off, mine-apart, one-parent, directory-key, seen-directory, volume-seen, volume-directory}
 
 -- an entry with no slots below it
 pub leaf : (v : Bytes) (s : ℕ) → (sort v s ≡ directory → ⊥) → kids v s ≡ []
@@ -69,6 +69,13 @@ module _ {n : ℕ} {v : Bytes} {a d : ℕ} (S : Sound n v) (P : Place v a d) whe
       placed-head S a x slot-placed k e
       (at-inj a (key v x * 13) (key v x * 512 + j - at a) (j - 4) (omega arith) (omega arith) (omega (arith, at-head (key v x) (j - 4))))
 
+  -- a byte of the map is in no slot
+  pub slot-map : (i : ℕ) → mapPlace * 512 ≤ i → i < mapPlace * 512 + mapBlocks n * 512 → at a ≤ i → i < at a + 39 → ⊥
+  slot-map i g h p q =
+      let o : ℕ = i - at a in
+      let e : i ≡ a / 13 * 512 + (4 + 39 * (a % 13) + o) = omega (arith, at-place a o) in
+      mine-off S (a / 13) (4 + 39 * (a % 13) + o) slot-mine (omega arith) (rw e at g) (rw e at h)
+
 -- The bytes of owned blocks that may change: the slot a, the count of d; of a's own blocks all if a is no directory, else links and header.
 pub data Touch (v : Bytes) (a d b j : ℕ) : Type 0 where
   in-slot : at a ≤ b * 512 + j → b * 512 + j < at a + 39 → Touch v a d b j
@@ -109,7 +116,7 @@ prodos-same n v v′ f g =
       one 0x04 (omega arith) (omega arith) (λ p q. omega arith),
       one 0x23 (omega arith) (omega arith) (λ p q. omega arith),
       one 0x24 (omega arith) (omega arith) (λ p q. omega arith),
-      head-word v v′ volumeBlock 0x29 g (omega arith) (omega arith) (λ p q. omega arith))
+      head-word v v′ volumeBlock 0x29 (head-late v v′ volumeBlock g) (omega arith) (omega arith) (λ p q. omega arith))
     refl
 
 -- a change of a in d
@@ -166,14 +173,17 @@ module _ {n : ℕ} {v v′ : Bytes} {a d : ℕ} (T : Step n v v′ a d) where
   unfolding field
   one-volume = one-head volume (volume-seen S) (λ e. P .proper (sym e)) (volume-directory S)
 
-  one-same : (x : ℕ) → Seen v x → (x ≡ a → ⊥) → Same v v′ x
-  one-same x h k o l z _ = go (eqb x volume) refl
+  one-fields : (x : ℕ) → Seen v x → (x ≡ a → ⊥) → Fields v v′ x
+  one-fields x h k z o g l _ = one-slot x (seen-placed S x h z) k o l
+
+  one-name : (x : ℕ) → Seen v x → (x ≡ a → ⊥) → Named v v′ (at x)
+  one-name x h k o l = go (eqb x volume) refl
     where
       go : (b : Bool) → eqb x volume ≡ b → v′ (at x + o) ≡ v (at x + o)
       go true e =
           let f : at x + o ≡ volumeBlock * 512 + (4 + o) = rw (eqb-true x volume e) (omega (arith, at-head volumeBlock o)) in
-          rw f (one-volume (4 + o) (omega arith) (omega (arith, z (eqb-true x volume e))) (λ p q. omega (arith, z (eqb-true x volume e))))
-      go false e = one-slot x (seen-placed S x h (eqb-false x volume e)) k o l
+          rw f (one-volume (4 + o) (omega arith) (omega arith) (λ p q. omega arith))
+      go false e = one-slot x (seen-placed S x h (eqb-false x volume e)) k o (omega arith)
 
   not-home : (x h b : ℕ) → Seen v x → sort v x ≡ file h → 1 ≤ count b (blocks v x) → 1 ≤ count b (blocks v d) → ⊥
   not-home x h b s e f g = file-directory (sym e ∙ rw (mine-apart S x d b s (P .home) f g) (P .holds))
@@ -188,10 +198,11 @@ module _ {n : ℕ} {v v′ : Bytes} {a d : ℕ} (T : Step n v v′ a d) where
   pub one-keeps : (x : ℕ) → Seen v x → (x ≡ a → ⊥) → Keeps v v′ x
   one-keeps x h k =
       record {
-        slot = one-same x h k;
+        sorted = sort-named v v′ x (one-name x h k);
+        slot = one-fields x h k;
         chains = λ e b c j l. own-byte x h k b j c (omega arith)
           (λ p q. at-link a b (b * 512 + j - at a) j (omega arith) l (omega arith)) (λ _ p q. omega arith);
-        head = one-head x h k;
+        head = λ e. head-late v v′ (key v x) (one-head x h k e);
         trees = λ g e. file-byte x g h k e;
       }
 
@@ -209,7 +220,7 @@ module _ {n : ℕ} {v v′ : Bytes} {a d : ℕ} (T : Step n v v′ a d) where
       go x r k false f = omega (arith, ltb-false 0 (count a (kids v x)) f)
 
   pub one-key : (q : ℕ) → Seen v q → (q ≡ a → ⊥) → key v′ q ≡ key v q
-  one-key q h k = key-same v v′ q (one-same q h k)
+  one-key q h k = key-same v v′ q (one-fields q h k)
 
   pub one-directory : key v′ d ≡ key v d
   one-directory = one-key d (P .home) one-apart
@@ -217,8 +228,8 @@ module _ {n : ℕ} {v v′ : Bytes} {a d : ℕ} (T : Step n v v′ a d) where
   -- the entries of a directory but a
   pub one-entry : (x s : ℕ) → Seen v x → 1 ≤ count s (kids v x) → (s ≡ a → ⊥) → (sort v′ s ≡ sort v s) × Named v v′ (at s)
   one-entry x s h c k =
-      let f = one-slot s (kid-placed S x s h c) k in
-      (sort-same v v′ s (λ o l _ _. f o l), λ i l. f i (omega arith))
+      let f : Named v v′ (at s) = λ i l. one-slot s (kid-placed S x s h c) k i (omega arith) in
+      (sort-named v v′ s f, f)
 
   -- those of a directory that is not d
   pub one-inside : (x : ℕ) → Seen v x → (x ≡ d → ⊥) → (s : ℕ) → 1 ≤ count s (kids v x) → (sort v′ s ≡ sort v s) × Named v v′ (at s)
@@ -349,7 +360,11 @@ module _ {n : ℕ} {v v′ : Bytes} {a d t : ℕ} {c e e′ : List ℕ} (C : Cha
       go true f = rw (eqb-true x a f, parent (eqb-true x a f) j, is-self a) (omega (arith, C .entry m))
       go false f =
           let k = eqb-false x a f in
-          omega (arith, faults-same v v′ x (one-keeps T x s k) n m q (core-key q x j) (right (eqb x d) refl k))
+          omega
+          (arith,
+            faults-same v v′ x (one-keeps T x s k) n m q (core-key q x j) (omega (arith, misnamed-same v v′ x (one-name T x s k)))
+            (λ g _. omega (arith, badge-same v v′ x (key v x) (one-name T x s k) (one-head T x s k g)))
+            (right (eqb x d) refl k))
 
   core-right : sums v′ (faults n v′) ≡ 0
   core-right =
@@ -383,7 +398,7 @@ module _ {n : ℕ} {v v′ : Bytes} {a d t : ℕ} {c e e′ : List ℕ} (C : Cha
         sign = prodos-same n v v′ (λ j l. one-keeps T volume (volume-seen S) (λ f. P .proper (sym f)) .chains (volume-directory S) volumeBlock
           (directory-key S volume (volume-seen S) (volume-directory S)) j l) (one-volume T)
           ∙ S .sign;
-        place = map-same v v′ (one-volume T) ∙ S .place;
+        place = map-same v v′ (head-late v v′ volumeBlock (one-volume T)) ∙ S .place;
         right = core-right;
         once = λ b h. omega (arith, core-owners b, S .once b h, C .balance b h);
         rest = C .rest;
@@ -400,7 +415,7 @@ module _ {n : ℕ} {v v′ : Bytes} {a d t : ℕ} {c e e′ : List ℕ} (C : Cha
   pub one-others : Others v v′ a
   one-others x h s k f =
       let r = one-keeps T x s k in
-      let same = sort-same v v′ x (r .slot) in
+      let same = r .sorted in
       record {
         seen = one-seen x s (λ q. inactive-file (sym q ∙ f)) (λ q. inactive-file (sym q ∙ same ∙ f));
         entry = one-slot T x (seen-placed S x s (λ q. not-volume q)) k;

@@ -1,0 +1,18 @@
+-- What holds of the image as it was, and of the new one where a call is not refused, holds of what the call leaves.
+use Prim.Native.Nat.{ℕ}
+use mathlib.Core.Path.{_≡_, refl, sym, _∙_}
+use Rattle.model.specs.Bytes.{Bytes}
+use Rattle.model.specs.Refusals.{settle}
+use Rattle.model.proofs.ByteLaws.{at-or-off}
+use Rattle.model.proofs.RefusalLaws.{settle-refused, settle-accepted}
+use Rattle.laws.proofs.Facts.{Seen}
+use Rattle.laws.proofs.One.{Kept, Others}
+
+pub settled : {P : Type 0} (k : ℕ) (r : P) (old : Bytes) (d : P) (new : Bytes) (Q : Bytes → Type 0) → Q old → (k ≡ 0 → Q new)
+    → Q (settle k r old d new .image)
+unfolding settle
+settled k r old d new Q q f =
+    at-or-off k 0 (λ e. rw (settle-accepted k r old d new e .1) (f e)) (λ n. rw (settle-refused k r old d new n .1) q)
+
+pub others-self : (v : Bytes) (a : ℕ) → Others v v a
+others-self v a x h s k e = record { seen = s; entry = λ o l. refl; sorted = refl; owns = refl; bytes = λ b c j l. refl }
