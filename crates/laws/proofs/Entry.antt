@@ -15,7 +15,7 @@ use Rattle.model.specs.Kinds.{kindFor, kindNumber}
 use Rattle.model.specs.declared.Kind.{Kind}
 use Rattle.model.specs.declared.Kind.the-variants.{Seedling, Sapling, Tree}
 use Rattle.model.specs.Directory.{Sort, directory, file, sort, isActive, at, directoryType, mapPlace, volume, volumeBlock, field, ftype, key, used, eof, directoryKey, kids}
-use Rattle.model.specs.File.{nodes, blocks, span, heightFor}
+use Rattle.model.specs.File.{nodes, blocks, span, heightFor, above, dataBlock, fileByte, content}
 use Rattle.model.specs.Sound.{outside, late, twins, fileFaults, faultsOf, faults}
 use Rattle.model.specs.Write.{noted}
 use Rattle.model.specs.declared.Stamp.{Stamp}
@@ -31,6 +31,7 @@ use Rattle.laws.proofs.One.{leaf, file-directory, Place, slot-placed, s
 use Rattle.laws.proofs.Weigh.{Gauge, weigh, each, tardy, has, size, weigh-zero, weigh-same, nodes-count, nodes-length, blocks-length, nodes-late, nodes-outside}
 use Rattle.laws.proofs.Move.{by-zero, map-low, map-alike, Fit, Move, move-fit, fit-key}
 use Rattle.laws.proofs.Room.{size-most}
+use Rattle.laws.proofs.Data.{spot, data-has, same-data, file-same}
 use Rattle.laws.proofs.Near.{Near, named-near, capital-near, twins-near}
 use Rattle.laws.proofs.Noted.{noted-out, noted-near, noted-sort, noted-key, noted-used, noted-eof, noted-up, noted-type, noted-octets}
 
@@ -258,3 +259,10 @@ module _ {n : ℕ} {v : Bytes} {a d h : ℕ} (R : Ready n v a d h) {w : Bytes} {
 
   pub called-octets : Octets called
   called-octets = noted-octets w a g k e t low (T .bytes)
+
+  -- the bytes that are read
+  pub called-byte : (i : ℕ) → 0 ≡ above g (i / 512) → content called a i ≡ fileByte w g k i
+  called-byte i s =
+      rw (called-sort, called-key)
+      (file-same w g k called g k i (same-data w g 0 k called g 0 k (i / 512) (λ b. read (spot (i / 512) b)) s s)
+      (λ z. in-tree (dataBlock w g k (i / 512)) (data-has w g 0 k (i / 512) s z)))

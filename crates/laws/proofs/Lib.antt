@@ -28,3 +28,5 @@ pub mod Near
 pub mod Noted
 pub mod Entry
 pub mod Grown
+pub mod Opened
+pub mod Written

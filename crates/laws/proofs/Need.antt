@@ -294,3 +294,7 @@ miss-lacks w (suc (suc zero)) k p c gl pl =
     let i : above 1 p % 256 ≡ p / 256 = unfold above in omega arith in
     rw (lacks-tree w k p (suc c)) (omega (arith, rw i at (miss-two w k p), holes-first w k p c, gaps-first w 2 k p c))
 miss-lacks w (suc (suc (suc g))) k p c gl pl = absurd (omega arith)
+
+pub need-keys : (v : Bytes) (h k g p c : ℕ) → g - h ≤ need v h k g p c
+unfolding need
+need-keys v h k g p c = omega arith
