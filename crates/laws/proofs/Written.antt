@@ -12,9 +12,10 @@ use Rattle.model.specs.Directory.{file, sort, mapPlace, mapBlock, key, eof}
 use Rattle.model.specs.File.{eofMost, span, heightFor, height, above, fileByte, content}
 use Rattle.model.specs.Grow.{need}
 use Rattle.model.specs.Write.{grown, grownKey, poured, touched, written, writeNeed, writeNumber, write}
-use Rattle.model.specs.Calls.{total, spot, target}
+use Rattle.model.specs.Calls.{total, home, spot, target}
 use Rattle.model.specs.Sound.{sound}
 use Rattle.model.specs.declared.Stamp.{Stamp}
+use Rattle.model.specs.Refusals.{settle}
 use Rattle.model.proofs.RefusalLaws.{settle-accepted}
 use Rattle.laws.proofs.Sound.{Sound, facts-sound}
 use Rattle.laws.proofs.One.{Others}
@@ -26,7 +27,7 @@ use Rattle.laws.proofs.Pour.{Poured, pour}
 use Rattle.laws.proofs.Entry.{Ready, fit, was-tall, height-most, eof-most, called-sound, called-others, called-octets, called-eof, called-byte}
 use Rattle.laws.proofs.Grown.{height-path, span-most, span-in, Grown, grow}
 use Rattle.laws.proofs.Lookup.{first-zero, not-false}
-use Rattle.laws.proofs.Settled.{others-self}
+use Rattle.laws.proofs.Settled.{settled, others-self}
 use Rattle.laws.proofs.Opened.{Opened, opened}
 
 -- What a write of size bytes at pos does to the file a.
@@ -41,34 +42,34 @@ pub record Wrote (n : ℕ) (v : Bytes) (a : ℕ) (w : Bytes) (pos size : ℕ) (b
 module _ {n : ℕ} {v : Bytes} {a d h : ℕ} (R : Ready n v a d h) (pos size : ℕ) (buffer : Bytes) (octets : Octets buffer) (t : Stamp)
     (some : 1 ≤ size) (most : pos + size < 16777216)
     (enough : need v h (key v a) (heightFor (max (eof v a) (pos + size))) (pos / 512) (touched pos size) ≤ room mapPlace v n) where
-  abbrev e : ℕ
-  e = max (eof v a) (pos + size)
+  abbrev end : ℕ
+  end = max (eof v a) (pos + size)
 
-  small : e < 16777216
+  small : end < 16777216
   small = omega (arith, eof-most R)
 
-  G : Grown n v h (key v a) (eof v a) (grown mapPlace n v a e) (heightFor e) (grownKey mapPlace n v a e) e
-  G = grow R e (omega arith) small (omega (arith, enough, need-keys v h (key v a) (heightFor e) (pos / 512) (touched pos size)))
+  G : Grown n v h (key v a) (eof v a) (grown mapPlace n v a end) (heightFor end) (grownKey mapPlace n v a end) end
+  G = grow R end (omega arith) small (omega (arith, enough, need-keys v h (key v a) (heightFor end) (pos / 512) (touched pos size)))
 
-  path : (r : ℕ) → r < span e → 0 ≡ above (heightFor e) r
-  path r l = height-path e r small l
+  path : (r : ℕ) → r < span end → 0 ≡ above (heightFor end) r
+  path r l = height-path end r small l
 
-  last : pos / 512 + touched pos size ≤ span e
-  last = omega (arith, span-in e (pos + size - 1) (omega arith))
+  last : pos / 512 + touched pos size ≤ span end
+  last = omega (arith, span-in end (pos + size - 1) (omega arith))
 
-  Q : Poured n (span e) (grown mapPlace n v a e) (heightFor e) (grownKey mapPlace n v a e)
-      (poured mapPlace n (grown mapPlace n v a e) (heightFor e) (grownKey mapPlace n v a e) (pos / 512) (touched pos size) pos buffer size)
+  Q : Poured n (span end) (grown mapPlace n v a end) (heightFor end) (grownKey mapPlace n v a end)
+      (poured mapPlace n (grown mapPlace n v a end) (heightFor end) (grownKey mapPlace n v a end) (pos / 512) (touched pos size) pos buffer size)
       (pos / 512) (touched pos size) pos buffer size
   Q =
-      pour n (span e) (heightFor e) (grownKey mapPlace n v a e) pos size buffer octets (height-most e) (span-most e small) path
-      (pos / 512) (touched pos size) (grown mapPlace n v a e) last (move-fit (fit R) (G .move))
+      pour n (span end) (heightFor end) (grownKey mapPlace n v a end) pos size buffer octets (height-most end) (span-most end small) path
+      (pos / 512) (touched pos size) (grown mapPlace n v a end) last (move-fit (fit R) (G .move))
       (omega
       (arith,
         enough,
         G .more,
         move-room (fit R) (G .move),
-        need-lacks v h (key v a) (grown mapPlace n v a e) (heightFor e) (grownKey mapPlace n v a e) (span e) (pos / 512) (touched pos size)
-        (rw (was-tall R) (height-most (eof v a))) (fit-some (fit R) (key v a) (has-key v h 0 (key v a))) (G .grows) (span-most e small) path last
+        need-lacks v h (key v a) (grown mapPlace n v a end) (heightFor end) (grownKey mapPlace n v a end) (span end) (pos / 512) (touched pos size)
+        (rw (was-tall R) (height-most (eof v a))) (fit-some (fit R) (key v a) (has-key v h 0 (key v a))) (G .grows) (span-most end small) path last
         (omega arith)))
 
   pub wrote : Wrote n v a (written mapPlace n v a pos buffer size t) pos size buffer
@@ -77,15 +78,79 @@ module _ {n : ℕ} {v : Bytes} {a d h : ℕ} (R : Ready n v a d h) (pos size : �
       let T = move-then (G .move) (Q .move) in
       let ends = Q .timely (G .ends) in
       record {
-        sound = called-sound R T e t small refl ends;
-        others = called-others R T e t small refl ends;
-        octets = called-octets R T e t small refl ends;
-        ends = called-eof R T e t small refl ends;
+        sound = called-sound R T end t small refl ends;
+        others = called-others R T end t small refl ends;
+        octets = called-octets R T end t small refl ends;
+        ends = called-eof R T end t small refl ends;
         inside = λ i l m.
-          called-byte R T e t small refl ends i (path (i / 512) (span-in e i (omega arith))) ∙ Q .inside i (omega arith) (omega arith) l m;
+          called-byte R T end t small refl ends i (path (i / 512) (span-in end i (omega arith))) ∙ Q .inside i (omega arith) (omega arith) l m;
         outside = λ i l o.
-          called-byte R T e t small refl ends i (path (i / 512) (span-in e i (omega arith)))
-          ∙ Q .outside i (span-in e i (omega arith)) (λ _ _. o)
+          called-byte R T end t small refl ends i (path (i / 512) (span-in end i (omega arith)))
+          ∙ Q .outside i (span-in end i (omega arith)) (λ _ _. o)
           ∙ G .below i l
           ∙ rw (R .kind) refl;
       }
+
+or-none : (p q : Bool) → (p or q) ≡ false → (p ≡ false) × (q ≡ false)
+unfolding _or_
+or-none true q e = absurd (false≢true (sym e))
+or-none false q e = (refl, e)
+
+-- The call.
+module _ (len : ℕ) (v p : Bytes) (k pos : ℕ) (buffer : Bytes) (size : ℕ) (t : Stamp) (octets : Octets v) (lent : Octets buffer) where
+  abbrev pub after : Bytes
+  after = write len v p k pos buffer size t .image
+
+  abbrev a : ℕ
+  a = spot (target v p k)
+
+  pub wrote-nothing : (n : ℕ) → Sound n v → pos ≤ eof v a → Wrote n v a v pos 0 buffer
+  wrote-nothing n S l =
+      record {
+        sound = S;
+        others = others-self v a;
+        octets = octets;
+        ends = omega arith;
+        inside = λ i x y. absurd (omega arith);
+        outside = λ i x y. refl;
+      }
+
+  new-done : writeNumber len v p k pos size (target v p k) ≡ 0
+      → Wrote (total len) v a (elim (eqb size 0) [ true ↦ v | false ↦ written (mapBlock v) (total len) v a pos buffer size t ]) pos size buffer
+  unfolding writeNumber
+  new-done e =
+      let O = opened len v p k _ octets e in
+      let R = O .ready in
+      let r₁ = first-zero _ _ (O .rest) (λ z. omega arith) in
+      let r₂ = first-zero _ _ (r₁ .1) (λ z. omega arith) in
+      let r₃ = first-zero _ _ (r₂ .1) (λ z. omega arith) in
+      let o = or-none _ _ (r₂ .0) in
+      go (O .tall) R (ltb-false (eof v a) pos (o .0)) (ltb-false eofMost (pos + size) (o .1))
+      (ltb-false (room (mapBlock v) v (total len)) (writeNeed v a pos size) (r₃ .0)) (eqb size 0) refl
+    where
+      go : (h : ℕ) → Ready (total len) v a (home (target v p k)) h → pos ≤ eof v a → pos + size ≤ eofMost → writeNeed v a pos size ≤ room (mapBlock v) v (total len)
+          → (b : Bool) → eqb size 0 ≡ b
+          → Wrote (total len) v a (elim b [ true ↦ v | false ↦ written (mapBlock v) (total len) v a pos buffer size t ]) pos size buffer
+      go h R start most enough true z = rw (eqb-true size 0 z) (wrote-nothing (total len) (R .sound) start)
+      go h R start most enough false z =
+          let some = eqb-false size 0 z in
+          let need-is : writeNeed v a pos size ≡ need v h (key v a) (heightFor (max (eof v a) (pos + size))) (pos / 512) (touched pos size) =
+            unfold writeNeed in rw (z, writeNeed) (rw (R .kind) refl) in
+          rw (R .sound .place)
+          (wrote R pos size buffer lent t (omega arith) (omega arith) (rw (R .sound .place, need-is) at enough))
+
+  pub write-done : write len v p k pos buffer size t .number ≡ 0 → Wrote (total len) v a after pos size buffer
+  unfolding write settle
+  write-done e = rw (settle-accepted _ 0 v size _ e .1) (new-done e)
+
+  pub write-sound : sound (total len) v ≡ true → sound (total len) after ≡ true
+  unfolding write
+  write-sound S = settled _ _ v _ _ (λ w. sound (total len) w ≡ true) S (λ e. facts-sound (new-done e .sound))
+
+  pub write-others : Others v after a
+  unfolding write
+  write-others = settled _ _ v _ _ (λ w. Others v w a) (others-self v a) (λ e. new-done e .others)
+
+  pub write-octets : Octets after
+  unfolding write
+  write-octets = settled _ _ v _ _ Octets octets (λ e. new-done e .octets)
