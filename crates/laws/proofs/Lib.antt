@@ -30,3 +30,4 @@ pub mod Entry
 pub mod Grown
 pub mod Opened
 pub mod Written
+pub mod Give
