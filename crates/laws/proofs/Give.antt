@@ -23,14 +23,14 @@ use Rattle.laws.proofs.Take.{first-le}
 use Rattle.laws.proofs.Data.{when}
 
 -- the blocks counted by o are given back, and only the map is written
-record Freed (n : ℕ) (w : Bytes) (o : ℕ → ℕ) (w′ : Bytes) : Type 0 where
-  bytes : Octets w′
-  rest : restClear mapPlace w′ n ≡ true
-  kept : (b : ℕ) → Off n b → Alike 512 w w′ b
-  freed : (b : ℕ) → free mapPlace w′ b ≡ free mapPlace w b + o b
+pub record Freed (n : ℕ) (w : Bytes) (o : ℕ → ℕ) (w′ : Bytes) : Type 0 where
+  pub bytes : Octets w′
+  pub rest : restClear mapPlace w′ n ≡ true
+  pub kept : (b : ℕ) → Off n b → Alike 512 w w′ b
+  pub freed : (b : ℕ) → free mapPlace w′ b ≡ free mapPlace w b + o b
 
 -- blocks of a tree
-freed-all : {n : ℕ} {w : Bytes} {h q k : ℕ} → Fit n w h q k → (bs : List ℕ) → ((b : ℕ) → count b bs ≤ has w h q k b)
+pub freed-all : {n : ℕ} {w : Bytes} {h q k : ℕ} → Fit n w h q k → (bs : List ℕ) → ((b : ℕ) → count b bs ≤ has w h q k b)
     → Freed n w (λ b. count b bs) (givenAll mapPlace w bs)
 freed-all {n} {w} {h} {q} {k} F bs f =
     record {

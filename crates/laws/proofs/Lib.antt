@@ -31,3 +31,4 @@ pub mod Grown
 pub mod Opened
 pub mod Written
 pub mod Give
+pub mod Prune
