@@ -32,3 +32,4 @@ pub mod Opened
 pub mod Written
 pub mod Give
 pub mod Prune
+pub mod Reset
