@@ -14,9 +14,10 @@ use Rattle.model.specs.Map.{mapBlocks, free, restClear}
 use Rattle.model.specs.Kinds.{kindFor, kindNumber}
 use Rattle.model.specs.declared.Kind.{Kind}
 use Rattle.model.specs.declared.Kind.the-variants.{Seedling, Sapling, Tree}
-use Rattle.model.specs.Directory.{Sort, directory, file, sort, isActive, at, directoryType, mapPlace, volume, volumeBlock, field, ftype, key, used, eof, directoryKey, kids}
+use Rattle.model.specs.Directory.{Sort, directory, file, sort, isActive, isDirectory, access, at, directoryType, mapPlace, volume, volumeBlock, field, ftype, key, used, eof, directoryKey, kids}
 use Rattle.model.specs.File.{nodes, blocks, span, heightFor, above, dataBlock, fileByte, content}
 use Rattle.model.specs.Sound.{outside, late, twins, fileFaults, faultsOf, faults}
+use Rattle.model.specs.Calls.{allows, readBit}
 use Rattle.model.specs.Write.{noted}
 use Rattle.model.specs.declared.Stamp.{Stamp}
 use Rattle.model.proofs.BitLaws.{is-yes, is-no, MapSame, same-free, same-rest}
@@ -25,15 +26,16 @@ use Rattle.model.proofs.SumLaws.{is-self, count-none, run-has}
 use Rattle.laws.proofs.Total.{total-one}
 use Rattle.laws.proofs.Frame.{at-block, at-place, Alike}
 use Rattle.laws.proofs.Sound.{deep, top, sums, fixed, mine, Sound}
-use Rattle.laws.proofs.Keep.{field-at, eof-at, ftype-at, file-blocks}
+use Rattle.laws.proofs.Keep.{head-name, field-at, eof-at, ftype-at, file-blocks, kids-same}
 use Rattle.laws.proofs.Facts.{FileRight, EntryRight, seen-file, kid-right, mine-in, mine-once, mine-map, mine-apart, placed-apart, directory-key, seen-directory}
-use Rattle.laws.proofs.One.{leaf, file-directory, Place, slot-placed, slot-mine, head-mine, slot-head, Touch, in-slot, in-file, Apart, Others, Step, Change, one-entry, one-directory, one-sound, one-others}
+use Rattle.laws.proofs.One.{leaf, file-directory, Place, slot-placed, slot-mine, head-mine, slot-head, Touch, in-slot, in-file, Apart, Others, Step, Change, one-keeps, one-volume, one-entry, one-directory, one-sound, one-others}
 use Rattle.laws.proofs.Weigh.{Gauge, weigh, each, tardy, has, size, weigh-zero, weigh-same, nodes-count, nodes-length, blocks-length, nodes-late, nodes-outside}
 use Rattle.laws.proofs.Move.{by-zero, map-low, map-alike, Fit, Move, move-fit, fit-key}
 use Rattle.laws.proofs.Room.{size-most}
 use Rattle.laws.proofs.Data.{spot, data-has, same-data, file-same}
 use Rattle.laws.proofs.Near.{Near, named-near, capital-near, twins-near}
-use Rattle.laws.proofs.Noted.{noted-out, noted-near, noted-sort, noted-key, noted-used, noted-eof, noted-up, noted-type, noted-octets}
+use Rattle.laws.proofs.Paths.{SameNames}
+use Rattle.laws.proofs.Noted.{noted-out, noted-near, noted-sort, noted-key, noted-used, noted-eof, noted-up, noted-type, noted-access, noted-octets, backed-read}
 
 -- a file a, of height h, in the directory d of a sound volume
 pub record Ready (n : ℕ) (v : Bytes) (a d h : ℕ) : Type 0 where
@@ -266,3 +268,22 @@ module _ {n : ℕ} {v : Bytes} {a d h : ℕ} (R : Ready n v a d h) {w : Bytes} {
       rw (called-sort, called-key)
       (file-same w g k called g k i (same-data w g 0 k called g 0 k (i / 512) (λ b. read (spot (i / 512) b)) s s)
       (λ z. in-tree (dataBlock w g k (i / 512)) (data-has w g 0 k (i / 512) s z)))
+
+  -- every path leads where it led, and the file may be read if it could be
+  pub called-names : SameNames v called
+  called-names =
+      record {
+        slots = λ x m f. kids-same v called x (one-keeps step x m (λ z. not-directory R (rw z at f)));
+        entry = λ x s m c. at-or-off s a
+          (λ z. rw z (record { alive = rw (called-sort, R .kind) refl; folder = rw (called-sort, R .kind) refl; near = near }))
+          (λ z.
+            let o = one-entry step x s m c z in
+            record { alive = ap isActive (o .0); folder = ap isDirectory (o .0); near = named-near (o .1) });
+        top = named-near (unfold at in head-name v called volumeBlock (one-volume step));
+      }
+
+  pub called-readable : allows (access called a) readBit ≡ allows (access v a) readBit
+  called-readable =
+      ap (λ x. allows x readBit) (noted-access w a g k e t)
+      ∙ backed-read (access w a)
+      ∙ ap (λ x. allows x readBit) (slot-alike 0x1E (omega arith))

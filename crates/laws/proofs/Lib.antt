@@ -33,3 +33,4 @@ pub mod Written
 pub mod Give
 pub mod Prune
 pub mod Reset
+pub mod Paths

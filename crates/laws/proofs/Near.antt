@@ -9,7 +9,8 @@ use Rattle.model.specs.Bytes.{Bytes, sum, count, equalBytes, _and_}
 use Rattle.model.specs.Names.{nameByte, nameBytes, properName, capital, capitals, capitalName, alike, Part, sameName}
 use Rattle.model.specs.Directory.{at, sort, isActive}
 use Rattle.model.specs.Sound.{twinsOf, twins}
-use Rattle.model.proofs.ByteLaws.{equal-cong}
+use borrow.Author.Tests.{ne-eqb}
+use Rattle.model.proofs.ByteLaws.{at-or-off, equal-cong}
 use Rattle.model.proofs.SumLaws.{is-self}
 use Rattle.laws.proofs.Frame.{Named}
 
@@ -69,10 +70,13 @@ twins-near v v′ (s ∷ ss) g =
     λ i. elim ((h .0) i) [ true ↦ x i + y i | false ↦ y i ]
 
 -- the name of a path's part
-pub same-near : {v v′ : Bytes} {a : ℕ} (p : Bytes) (x : Part) → Near v v′ a → x .size ≤ 15 → sameName v′ a p x ≡ sameName v a p x
+pub same-near : {v v′ : Bytes} {a : ℕ} (p : Bytes) (x : Part) → Near v v′ a → sameName v′ a p x ≡ sameName v a p x
 unfolding sameName
-same-near {v} {v′} {a} p x N l =
-    rw
-    (N .sized,
-      equal-cong v′ (a + 1) (capitals p) (x .start) (x .size) v (a + 1) (capitals p) (x .start) (λ i m. N .rest i (omega arith)) (λ i m. refl))
-    refl
+same-near {v} {v′} {a} p x N =
+    at-or-off (v a % 16) (x .size)
+    (λ e.
+      rw
+      (N .sized,
+        equal-cong v′ (a + 1) (capitals p) (x .start) (x .size) v (a + 1) (capitals p) (x .start) (λ i m. N .rest i (omega arith)) (λ i m. refl))
+      refl)
+    (λ d. unfold _and_ in rw (N .sized, ne-eqb (v a % 16) (x .size) d) refl)

@@ -10,7 +10,7 @@ use Rattle.model.specs.Bytes.{Bytes, Octets, put, paste, digit, word, long, put
 use Rattle.model.specs.Names.{nameSize}
 use Rattle.model.specs.Directory.{Sort, file, sortOf, sort, at, volume, volumeBlock, key, used, eof, access, directoryKey, ftype}
 use Rattle.model.specs.File.{nodes}
-use Rattle.model.specs.Calls.{stampBytes, backedUp}
+use Rattle.model.specs.Calls.{stampBytes, backedUp, allows, readBit}
 use Rattle.model.specs.Write.{noted}
 use Rattle.model.specs.declared.Stamp.{Stamp}
 use Rattle.model.proofs.ByteLaws.{put-at, put-off, paste-out, putWord-out, putLong-out, word-putWord, long-putLong, word-same, word-put-off, word-paste-off, word-putWord-off, word-putLong-off, long-put-off, long-paste-off, octets-put, octets-paste, octets-putWord, octets-putLong, digit-bound}
@@ -24,6 +24,10 @@ stamp-octets t = octets-paste _ _ _ _ (digit-bound (t .date)) (λ i l. digit-bou
 backed-byte : (x : ℕ) → x < 256 → backedUp x < 256
 unfolding backedUp
 backed-byte x l = omega arith
+
+pub backed-read : (x : ℕ) → allows (backedUp x) readBit ≡ allows x readBit
+unfolding backedUp allows
+backed-read x = let e : (x + 32 * (1 - x / 32 % 2)) / 1 % 2 ≡ x / 1 % 2 = omega arith in rw e refl
 
 module _ (w : Bytes) (s h k e : ℕ) (t : Stamp) where
   abbrev new : Bytes
@@ -55,6 +59,10 @@ module _ (w : Bytes) (s h k e : ℕ) (t : Stamp) where
       ∙ putWord-out _ _ _ (at s) (λ p q. omega arith)
       ∙ putWord-out _ _ _ (at s) (λ p q. omega arith)
       ∙ put-at w (at s) _
+
+  pub noted-access : access new s ≡ backedUp (access w s)
+  unfolding noted
+  noted-access = paste-out _ _ _ _ _ (λ p q. omega arith) ∙ put-at _ (at s + 0x1E) _
 
   pub noted-near : Near w new (at s)
   noted-near =
