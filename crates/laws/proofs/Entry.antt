@@ -47,7 +47,7 @@ pub record Ready (n : ℕ) (v : Bytes) (a d h : ℕ) : Type 0 where
 module _ {n : ℕ} {v : Bytes} {a d h : ℕ} (R : Ready n v a d h) where
   open Ready R using (sound as S, spot as P)
 
-  pub own-tree : (b : ℕ) → count b (blocks v a) ≡ has v h 0 (key v a) b
+  own-tree : (b : ℕ) → count b (blocks v a) ≡ has v h 0 (key v a) b
   own-tree b = rw (file-blocks v a h (R .kind)) (nodes-count v h 0 (key v a) b)
 
   own-most : (b : ℕ) → has v h 0 (key v a) b ≤ mine v b
@@ -87,11 +87,21 @@ module _ {n : ℕ} {v : Bytes} {a d h : ℕ} (R : Ready n v a d h) where
   not-directory e = file-directory (sym (R .kind) ∙ e)
 
   -- the block of the entry is no block at hand
-  pub entry-apart : has v h 0 (key v a) (a / 13) ≡ 0
+  entry-apart : has v h 0 (key v a) (a / 13) ≡ 0
   entry-apart = sym (own-tree (a / 13)) ∙ placed-apart S a a (slot-placed S P) (P .seen) (leaf v a not-directory)
 
   entry-right : EntryRight v d a
   entry-right = kid-right S d a (P .home) (P .holds) (P .inside) (rw (R .kind) refl)
+
+-- What a call leaves that was done to the file a, whose EOF is now e.
+pub record Done (n : ℕ) (v : Bytes) (a : ℕ) (w : Bytes) (e : ℕ) : Type 0 where
+  pub sound : Sound n w
+  pub others : Others v w a
+  pub octets : Octets w
+  pub names : SameNames v w
+  pub ends : eof w a ≡ e
+  pub plain : isDirectory (sort w a) ≡ false
+  pub readable : allows (access w a) readBit ≡ allows (access v a) readBit
 
 -- heights
 pub height-most : (e : ℕ) → heightFor e ≤ 2
@@ -149,22 +159,22 @@ module _ {n : ℕ} {v : Bytes} {a d h : ℕ} (R : Ready n v a d h) {w : Bytes} {
   beside : (b : ℕ) → (b ≡ a / 13 → ⊥) → Alike 512 w called b
   beside b z j l = noted-out w a g k e t (b * 512 + j) (λ p q. z (sym (at-block a b (b * 512 + j - at a) j (omega arith) l (omega arith))))
 
-  pub in-tree : (b : ℕ) → 1 ≤ has w g 0 k b → Alike 512 w called b
+  in-tree : (b : ℕ) → 1 ≤ has w g 0 k b → Alike 512 w called b
   in-tree b m = beside b (λ z. omega (arith, away, rw z at m))
 
-  pub read : (x : Gauge) → weigh x called g 0 k ≡ weigh x w g 0 k
+  read : (x : Gauge) → weigh x called g 0 k ≡ weigh x w g 0 k
   read x = weigh-same x w called g 0 k in-tree
 
   map-called : MapSame mapPlace n w called
   map-called = map-alike n w called (λ b p q. beside b (λ z. mine-map S (a / 13) (slot-mine S P) (rw (← z) p) (rw (← z) q)))
 
-  pub called-sort : sort called a ≡ file g
+  called-sort : sort called a ≡ file g
   called-sort = noted-sort w a g k e t (P .proper) low
 
-  pub called-key : key called a ≡ k
+  called-key : key called a ≡ k
   called-key = noted-key w a g k e t (P .proper) (omega (arith, fit-key W, S .small))
 
-  pub called-eof : eof called a ≡ e
+  called-eof : eof called a ≡ e
   called-eof = noted-eof w a g k e t (P .proper) small
 
   called-used : used called a ≡ size w g 0 k
@@ -253,15 +263,6 @@ module _ {n : ℕ} {v : Bytes} {a d h : ℕ} (R : Ready n v a d h) {w : Bytes} {
         rest = same-rest mapPlace n w called map-called (T .rest);
       }
 
-  pub called-sound : Sound n called
-  called-sound = one-sound change
-
-  pub called-others : Others v called a
-  called-others = one-others change
-
-  pub called-octets : Octets called
-  called-octets = noted-octets w a g k e t low (T .bytes)
-
   -- the bytes that are read
   pub called-byte : (i : ℕ) → 0 ≡ above g (i / 512) → content called a i ≡ fileByte w g k i
   called-byte i s =
@@ -270,7 +271,7 @@ module _ {n : ℕ} {v : Bytes} {a d h : ℕ} (R : Ready n v a d h) {w : Bytes} {
       (λ z. in-tree (dataBlock w g k (i / 512)) (data-has w g 0 k (i / 512) s z)))
 
   -- every path leads where it led, and the file may be read if it could be
-  pub called-names : SameNames v called
+  called-names : SameNames v called
   called-names =
       record {
         slots = λ x m f. kids-same v called x (one-keeps step x m (λ z. not-directory R (rw z at f)));
@@ -282,8 +283,20 @@ module _ {n : ℕ} {v : Bytes} {a d h : ℕ} (R : Ready n v a d h) {w : Bytes} {
         top = named-near (unfold at in head-name v called volumeBlock (one-volume step));
       }
 
-  pub called-readable : allows (access called a) readBit ≡ allows (access v a) readBit
+  called-readable : allows (access called a) readBit ≡ allows (access v a) readBit
   called-readable =
       ap (λ x. allows x readBit) (noted-access w a g k e t)
       ∙ backed-read (access w a)
       ∙ ap (λ x. allows x readBit) (slot-alike 0x1E (omega arith))
+
+  pub called-done : Done n v a called e
+  called-done =
+      record {
+        sound = one-sound change;
+        others = one-others change;
+        octets = noted-octets w a g k e t low (T .bytes);
+        names = called-names;
+        ends = noted-eof w a g k e t (P .proper) small;
+        plain = rw called-sort refl;
+        readable = called-readable;
+      }

@@ -25,6 +25,7 @@ pub mod Data
 pub mod Need
 pub mod Pour
 pub mod Near
+pub mod Paths
 pub mod Noted
 pub mod Entry
 pub mod Grown
@@ -33,4 +34,3 @@ pub mod Written
 pub mod Give
 pub mod Prune
 pub mod Reset
-pub mod Paths

@@ -26,6 +26,15 @@ pub record SameNames (v v′ : Bytes) : Type 0 where
   pub entry : (d s : ℕ) → Seen v d → 1 ≤ count s (kids v d) → SameEntry v v′ s
   pub top : Near v v′ (at volume)
 
+pub names-self : (v : Bytes) → SameNames v v
+names-self v =
+    let near : (a : ℕ) → Near v v a = λ a. record { sized = refl; rest = λ i l. refl } in
+    record {
+      slots = λ d h e. refl;
+      entry = λ d s h c. record { alive = refl; folder = refl; near = near (at s) };
+      top = near (at volume);
+    }
+
 folder-is : (K : Sort) → isDirectory K ≡ true → K ≡ directory
 folder-is inactive e = absurd (false≢true e)
 folder-is directory e = refl

@@ -22,7 +22,7 @@ use Rattle.laws.proofs.One.{Others}
 use Rattle.laws.proofs.Weigh.{weigh, tardy}
 use Rattle.laws.proofs.Move.{Fit, Move, move-fit, move-then}
 use Rattle.laws.proofs.Room.{first-zero as zero-first}
-use Rattle.laws.proofs.Entry.{Ready, fit, was-tall, eof-most, called-sound, called-others, called-octets, called-eof, called-byte}
+use Rattle.laws.proofs.Entry.{Ready, fit, was-tall, eof-most, Done, called-done, called-byte}
 use Rattle.laws.proofs.Grown.{height-le, height-path, span-some, span-in, Grown, grow}
 use Rattle.laws.proofs.Give.{sunk-move}
 use Rattle.laws.proofs.Prune.{Pruned, prune, prune-move, prune-late, prune-byte, sunk-byte}
@@ -32,10 +32,7 @@ use Rattle.laws.proofs.Opened.{Opened, opened}
 
 -- What set EOF to e does to the file a.
 pub record Reset (n : ℕ) (v : Bytes) (a : ℕ) (w : Bytes) (e : ℕ) : Type 0 where
-  pub sound : Sound n w
-  pub others : Others v w a
-  pub octets : Octets w
-  pub ends : eof w a ≡ e
+  pub done : Done n v a w e
   pub below : (i : ℕ) → i < eof v a → i < e → content w a i ≡ content v a i
   pub past : (i : ℕ) → eof v a ≤ i → i < e → content w a i ≡ 0
 
@@ -50,10 +47,7 @@ module _ {n : ℕ} {v : Bytes} {a d h : ℕ} (R : Ready n v a d h) (e : ℕ) (t 
       → Reset n v a (noted w a (heightFor e) k e t) e
   reset T ends low high =
       record {
-        sound = called-sound R T e t small refl ends;
-        others = called-others R T e t small refl ends;
-        octets = called-octets R T e t small refl ends;
-        ends = called-eof R T e t small refl ends;
+        done = called-done R T e t small refl ends;
         below = λ i l m. called-byte R T e t small refl ends i (path i m) ∙ low i l m ∙ rw (R .kind) refl;
         past = λ i l m. called-byte R T e t small refl ends i (path i m) ∙ high i l m;
       }
@@ -119,12 +113,12 @@ module _ (len : ℕ) (v p : Bytes) (k e : ℕ) (t : Stamp) (octets : Octets v) w
 
   pub set-eof-sound : sound (total len) v ≡ true → sound (total len) after ≡ true
   unfolding setEof
-  set-eof-sound S = settled _ _ v _ _ (λ w. sound (total len) w ≡ true) S (λ z. facts-sound (new-done z .sound))
+  set-eof-sound S = settled _ _ v _ _ (λ w. sound (total len) w ≡ true) S (λ z. facts-sound (new-done z .done .sound))
 
   pub set-eof-others : Others v after a
   unfolding setEof
-  set-eof-others = settled _ _ v _ _ (λ w. Others v w a) (others-self v a) (λ z. new-done z .others)
+  set-eof-others = settled _ _ v _ _ (λ w. Others v w a) (others-self v a) (λ z. new-done z .done .others)
 
   pub set-eof-octets : Octets after
   unfolding setEof
-  set-eof-octets = settled _ _ v _ _ Octets octets (λ z. new-done z .octets)
+  set-eof-octets = settled _ _ v _ _ Octets octets (λ z. new-done z .done .octets)

@@ -24,18 +24,16 @@ use Rattle.laws.proofs.Move.{by-lt, Fit, Move, move-fit, move-then, fit
 use Rattle.laws.proofs.Room.{move-room}
 use Rattle.laws.proofs.Need.{need-keys, need-lacks}
 use Rattle.laws.proofs.Pour.{Poured, pour}
-use Rattle.laws.proofs.Entry.{Ready, fit, was-tall, height-most, eof-most, called-sound, called-others, called-octets, called-eof, called-byte}
+use Rattle.laws.proofs.Entry.{Ready, fit, was-tall, height-most, eof-most, Done, called-done, called-byte}
 use Rattle.laws.proofs.Grown.{height-path, span-most, span-in, Grown, grow}
 use Rattle.laws.proofs.Lookup.{first-zero, not-false}
 use Rattle.laws.proofs.Settled.{settled, others-self}
+use Rattle.laws.proofs.Paths.{names-self}
 use Rattle.laws.proofs.Opened.{Opened, opened}
 
 -- What a write of size bytes at pos does to the file a.
 pub record Wrote (n : ℕ) (v : Bytes) (a : ℕ) (w : Bytes) (pos size : ℕ) (buffer : Bytes) : Type 0 where
-  pub sound : Sound n w
-  pub others : Others v w a
-  pub octets : Octets w
-  pub ends : eof w a ≡ max (eof v a) (pos + size)
+  pub done : Done n v a w (max (eof v a) (pos + size))
   pub inside : (i : ℕ) → pos ≤ i → i < pos + size → content w a i ≡ buffer (i - pos)
   pub outside : (i : ℕ) → i < eof v a → (pos ≤ i → i < pos + size → ⊥) → content w a i ≡ content v a i
 
@@ -78,10 +76,7 @@ module _ {n : ℕ} {v : Bytes} {a d h : ℕ} (R : Ready n v a d h) (pos size : �
       let T = move-then (G .move) (Q .move) in
       let ends = Q .timely (G .ends) in
       record {
-        sound = called-sound R T end t small refl ends;
-        others = called-others R T end t small refl ends;
-        octets = called-octets R T end t small refl ends;
-        ends = called-eof R T end t small refl ends;
+        done = called-done R T end t small refl ends;
         inside = λ i l m.
           called-byte R T end t small refl ends i (path (i / 512) (span-in end i (omega arith))) ∙ Q .inside i (omega arith) (omega arith) l m;
         outside = λ i l o.
@@ -104,13 +99,19 @@ module _ (len : ℕ) (v p : Bytes) (k pos : ℕ) (buffer : Bytes) (size : ℕ) (
   abbrev a : ℕ
   a = spot (target v p k)
 
-  pub wrote-nothing : (n : ℕ) → Sound n v → pos ≤ eof v a → Wrote n v a v pos 0 buffer
-  wrote-nothing n S l =
+  nothing-done : (n d h : ℕ) → Ready n v a d h → pos ≤ eof v a → Wrote n v a v pos 0 buffer
+  nothing-done n d h R l =
       record {
-        sound = S;
-        others = others-self v a;
-        octets = octets;
-        ends = omega arith;
+        done =
+          record {
+            sound = R .sound;
+            others = others-self v a;
+            octets = octets;
+            names = names-self v;
+            ends = omega arith;
+            plain = rw (R .kind) refl;
+            readable = refl;
+          };
         inside = λ i x y. absurd (omega arith);
         outside = λ i x y. refl;
       }
@@ -131,7 +132,7 @@ module _ (len : ℕ) (v p : Bytes) (k pos : ℕ) (buffer : Bytes) (size : ℕ) (
       go : (h : ℕ) → Ready (total len) v a (home (target v p k)) h → pos ≤ eof v a → pos + size ≤ eofMost → writeNeed v a pos size ≤ room (mapBlock v) v (total len)
           → (b : Bool) → eqb size 0 ≡ b
           → Wrote (total len) v a (elim b [ true ↦ v | false ↦ written (mapBlock v) (total len) v a pos buffer size t ]) pos size buffer
-      go h R start most enough true z = rw (eqb-true size 0 z) (wrote-nothing (total len) (R .sound) start)
+      go h R start most enough true z = rw (eqb-true size 0 z) (nothing-done (total len) (home (target v p k)) h R start)
       go h R start most enough false z =
           let some = eqb-false size 0 z in
           let need-is : writeNeed v a pos size ≡ need v h (key v a) (heightFor (max (eof v a) (pos + size))) (pos / 512) (touched pos size) =
@@ -145,12 +146,12 @@ module _ (len : ℕ) (v p : Bytes) (k pos : ℕ) (buffer : Bytes) (size : ℕ) (
 
   pub write-sound : sound (total len) v ≡ true → sound (total len) after ≡ true
   unfolding write
-  write-sound S = settled _ _ v _ _ (λ w. sound (total len) w ≡ true) S (λ e. facts-sound (new-done e .sound))
+  write-sound S = settled _ _ v _ _ (λ w. sound (total len) w ≡ true) S (λ e. facts-sound (new-done e .done .sound))
 
   pub write-others : Others v after a
   unfolding write
-  write-others = settled _ _ v _ _ (λ w. Others v w a) (others-self v a) (λ e. new-done e .others)
+  write-others = settled _ _ v _ _ (λ w. Others v w a) (others-self v a) (λ e. new-done e .done .others)
 
   pub write-octets : Octets after
   unfolding write
-  write-octets = settled _ _ v _ _ Octets octets (λ e. new-done e .octets)
+  write-octets = settled _ _ v _ _ Octets octets (λ e. new-done e .done .octets)
