@@ -34,3 +34,4 @@ pub mod Written
 pub mod Give
 pub mod Prune
 pub mod Reset
+pub mod Reading

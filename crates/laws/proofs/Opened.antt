@@ -6,9 +6,11 @@ use mathlib.Core.Bool.{Bool, true, false, not, false≢true}
 use native.Mathlib.Omega.{arith}
 use Rattle.model.specs.Bytes.{Bytes, Octets}
 use Rattle.model.specs.Directory.{Sort, inactive, directory, improper, file, sort, isActive, isDirectory, volume}
+use Rattle.model.specs.Names.{properPath}
+use Rattle.model.specs.Sound.{wholeBlocks}
 use Rattle.model.specs.Refusals.{Row, row, first}
-use Rattle.model.specs.Calls.{total, notProdos, notSound, badPath, notVolume, notDirectory, notFound, notData, home, spot, target}
-use Rattle.laws.proofs.Sound.{Sound, sound-facts}
+use Rattle.model.specs.Calls.{total, notProdos, notSound, badPath, notVolume, notDirectory, notFound, notData, isNoVolume, isNoDirectory, isMissing, home, spot, target}
+use Rattle.laws.proofs.Sound.{and-left, Sound, sound-facts}
 use Rattle.laws.proofs.Facts.{seen-proper, volume-directory}
 use Rattle.laws.proofs.Lookup.{first-zero, not-false, entry-led, target-led}
 use Rattle.laws.proofs.Entry.{Ready}
@@ -21,6 +23,11 @@ file-is improper a d p = absurd (p refl)
 file-is (file h) a d p = (h, refl)
 
 pub record Opened (len : ℕ) (v p : Bytes) (k : ℕ) (rs : List Row) : Type 0 where
+  pub whole : wholeBlocks len ≡ true
+  pub proper : properPath p k ≡ true
+  pub known : isNoVolume (target v p k) ≡ false
+  pub way : isNoDirectory (target v p k) ≡ false
+  pub found : isMissing (target v p k) ≡ false
   pub tall : ℕ
   pub ready : Ready (total len) v (spot (target v p k)) (home (target v p k)) tall
   pub rest : first rs ≡ 0
@@ -48,4 +55,4 @@ opened len v p k rs octets e =
     let a = spot (target v p k) in
     let E = entry-led S (target-led S p k) (r₄ .0) (r₅ .0) (r₆ .0) (λ z. false≢true (sym (r₇ .0) ∙ rw z (ap isDirectory (volume-directory S)))) in
     let h = file-is (sort v a) (E .alive) (r₇ .0) (seen-proper S a (E .spot .seen)) in
-    record { tall = h .0; ready = record { bytes = octets; sound = S; spot = E .spot; kind = h .1 }; rest = r₇ .1 }
+    record { whole = and-left _ _ (not-false _ (r₁ .0)); proper = not-false _ (r₃ .0); known = r₄ .0; way = r₅ .0; found = r₆ .0; tall = h .0; ready = record { bytes = octets; sound = S; spot = E .spot; kind = h .1 }; rest = r₇ .1 }

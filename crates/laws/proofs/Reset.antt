@@ -13,7 +13,7 @@ use Rattle.model.specs.File.{eofMost, span, heightFor, height, above, fileByte,
 use Rattle.model.specs.Write.{noted, grown, grownKey}
 use Rattle.model.specs.SetEof.{sunk, sunkKey, pruned, shrunkKey, shrunk, eofSet, setEofNumber, setEof}
 use Rattle.model.specs.Calls.{total, home, spot, target, nothing}
-use Rattle.model.specs.Refusals.{settle}
+use Rattle.model.specs.Refusals.{Row, settle}
 use Rattle.model.specs.Sound.{sound}
 use Rattle.model.specs.declared.Stamp.{Stamp}
 use Rattle.model.proofs.RefusalLaws.{settle-accepted}
@@ -106,6 +106,10 @@ module _ (len : ℕ) (v p : Bytes) (k e : ℕ) (t : Stamp) (octets : Octets v) w
       rw (R .sound .place)
       (end-set R e t (omega arith)
       (rw (R .sound .place, R .kind) at (ltb-false (room (mapBlock v) v (total len)) (heightFor e - height (sort v a)) (r₃ .0))))
+
+  pub set-eof-opened : setEof len v p k e t .number ≡ 0 → (rs : List Row) × Opened len v p k rs
+  unfolding setEof settle setEofNumber
+  set-eof-opened z = (_, opened len v p k _ octets z)
 
   pub set-eof-done : setEof len v p k e t .number ≡ 0 → Reset (total len) v a after e
   unfolding setEof settle

@@ -15,7 +15,7 @@ use Rattle.model.specs.Write.{grown, grownKey, poured, touched, written, writeN
 use Rattle.model.specs.Calls.{total, home, spot, target}
 use Rattle.model.specs.Sound.{sound}
 use Rattle.model.specs.declared.Stamp.{Stamp}
-use Rattle.model.specs.Refusals.{settle}
+use Rattle.model.specs.Refusals.{Row, settle}
 use Rattle.model.proofs.RefusalLaws.{settle-accepted}
 use Rattle.laws.proofs.Sound.{Sound, facts-sound}
 use Rattle.laws.proofs.One.{Others}
@@ -139,6 +139,17 @@ module _ (len : ℕ) (v p : Bytes) (k pos : ℕ) (buffer : Bytes) (size : ℕ) (
             unfold writeNeed in rw (z, writeNeed) (rw (R .kind) refl) in
           rw (R .sound .place)
           (wrote R pos size buffer lent t (omega arith) (omega arith) (rw (R .sound .place, need-is) at enough))
+
+  pub write-opened : write len v p k pos buffer size t .number ≡ 0 → (rs : List Row) × Opened len v p k rs
+  unfolding write settle writeNumber
+  write-opened e = (_, opened len v p k _ octets e)
+
+  pub write-start : write len v p k pos buffer size t .number ≡ 0 → pos ≤ eof v a
+  unfolding write settle writeNumber
+  write-start e =
+      let r₁ = first-zero _ _ (opened len v p k _ octets e .rest) (λ z. omega arith) in
+      let r₂ = first-zero _ _ (r₁ .1) (λ z. omega arith) in
+      ltb-false (eof v a) pos (or-none _ _ (r₂ .0) .0)
 
   pub write-done : write len v p k pos buffer size t .number ≡ 0 → Wrote (total len) v a after pos size buffer
   unfolding write settle
