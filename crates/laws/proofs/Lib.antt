@@ -35,3 +35,4 @@ pub mod Give
 pub mod Prune
 pub mod Reset
 pub mod Reading
+pub mod Elsewhere

@@ -16,7 +16,7 @@ use Rattle.laws.proofs.Lookup.{first-zero, not-false, entry-led, target
 use Rattle.laws.proofs.Entry.{Ready}
 
 -- what is active, no directory and of a proper kind
-file-is : (K : Sort) → isActive K ≡ true → isDirectory K ≡ false → (K ≡ improper → ⊥) → (h : ℕ) × (K ≡ file h)
+pub file-is : (K : Sort) → isActive K ≡ true → isDirectory K ≡ false → (K ≡ improper → ⊥) → (h : ℕ) × (K ≡ file h)
 file-is inactive a d p = absurd (false≢true a)
 file-is directory a d p = absurd (false≢true (sym d))
 file-is improper a d p = absurd (p refl)
