@@ -1,17 +1,17 @@
 -- The data blocks of a file by file block, and its bytes: growth keeps them, what is new reads as zero.
-use Prim.Native.Nat.{ℕ, zero, suc, _+_, _-_, _*_, _≤_, _<_, _/_, _%_}
-use mathlib.Core.Path.{_≡_, refl, sym, ap, _∙_}
+use Prim.Native.Nat.{ℕ, zero, suc, _+_, _*_, _≤_, _/_, _%_}
+use mathlib.Core.Path.{_≡_, refl, sym, _∙_}
 use mathlib.Core.Bool.{Bool, true, false}
-use lib.Dec.{leb, ltb, eqb}
+use lib.Dec.{eqb}
 use native.Mathlib.Omega.{arith}
 use borrow.Author.Tests.{eqb-true, eqb-false, eq-eqb, ne-eqb, le-leb}
-use Rattle.model.specs.Bytes.{Bytes, is, one-if}
+use Rattle.model.specs.Bytes.{Bytes, is}
 use Rattle.model.specs.File.{pointer, firstBelow, above, dataBlock, fileByte}
-use Rattle.model.proofs.BitLaws.{is-yes, is-no, is-most}
+use Rattle.model.proofs.BitLaws.{is-no, is-most}
 use Rattle.model.proofs.SumLaws.{is-self, is-eq}
 use Rattle.laws.proofs.Frame.{Alike}
-use Rattle.laws.proofs.Weigh.{upto, upto-one, upto-zero, Gauge, arm, weigh, each, tardy, has, part, arm-hole, arm-full, part-zero, weigh-le, weigh-add, weigh-same, Blank, leaves, has-split}
-use Rattle.laws.proofs.Move.{by-zero, Fit, fit-some, Move}
+use Rattle.laws.proofs.Weigh.{upto, upto-one, upto-zero, Gauge, arm, weigh, tardy, has, part, arm-hole, arm-full, part-zero, weigh-le, weigh-add, Blank, leaves, has-split}
+use Rattle.laws.proofs.Move.{by-zero, Fit}
 use Rattle.laws.proofs.Take.{Work, Still}
 
 abbrev pub when : Bool → ℕ → ℕ → ℕ
@@ -41,11 +41,12 @@ module _ (r b : ℕ) (w : Bytes) where
 
       alone : upto 256 (arm (λ s p. weigh (spot r b) w h s p) w q k) ≡ part (spot r b) w h q k i
       alone =
-          omega
-          (arith,
+          omega (
+            arith,
             upto-zero 256 (λ _. 0) (λ _ _. refl),
             upto-one 256 i (arm (λ s p. weigh (spot r b) w h s p) w q k) (λ _. 0) (omega arith)
-            (λ j l d. part-zero (spot r b) w h q k j (λ y. spot-off h (q * 256 + j) (pointer w k j) (λ t. d (omega arith)))))
+                (λ j l d. part-zero (spot r b) w h q k j (λ y. spot-off h (q * 256 + j) (pointer w k j) (λ t. d (omega arith)))),
+          )
 
       go : (t : Bool) → eqb (pointer w k i) 0 ≡ t → weigh (spot r b) w h (q * 256 + i) (pointer w k i) ≡ is b (dataBlock w h (pointer w k i) r)
           → 0 + upto 256 (arm (λ s p. weigh (spot r b) w h s p) w q k) ≡ is b (elim t [ true ↦ 0 | false ↦ dataBlock w h (pointer w k i) r ])
@@ -67,11 +68,12 @@ spot-split r b (suc l) s x = refl
 
 leaves-split : (r b : ℕ) (w : Bytes) (h q k : ℕ) → weigh (leaves b) w h q k ≡ weigh (spot r b) w h q k + weigh (else-where r b) w h q k
 leaves-split r b w h q k =
-    omega
-    (arith,
+    omega (
+      arith,
       weigh-add (spot r b) (else-where r b) w h q k,
       weigh-le (leaves b) (λ l s x. spot r b l s x + else-where r b l s x) w h q k (λ l s x _. omega (arith, spot-split r b l s x)),
-      weigh-le (λ l s x. spot r b l s x + else-where r b l s x) (leaves b) w h q k (λ l s x _. omega (arith, spot-split r b l s x)))
+      weigh-le (λ l s x. spot r b l s x + else-where r b l s x) (leaves b) w h q k (λ l s x _. omega (arith, spot-split r b l s x)),
+    )
 
 -- a data block is in the tree
 module _ (w : Bytes) (h q k r : ℕ) (s : q ≡ above h r) (d : dataBlock w h k r ≡ 0 → ⊥) where
@@ -102,13 +104,13 @@ pub same-data : (w : Bytes) (h q k : ℕ) (w′ : Bytes) (h′ q′ k′ r : ℕ
 same-data w h q k w′ h′ q′ k′ r A s t =
     by-zero (dataBlock w h k r)
     (λ z. by-zero (dataBlock w′ h′ k′ r) (λ y. y ∙ sym z) (λ y.
-      let b = dataBlock w′ h′ k′ r in
-      let d : b ≡ 0 → ⊥ = λ o. omega arith in
-      absurd (omega (arith, spot-is r b w′ h′ q′ k′ d t, A b, is-self b, rw z at (spot-is r b w h q k d s), is-no b 0 d))))
+    let b = dataBlock w′ h′ k′ r in
+    let d : b ≡ 0 → ⊥ = λ o. omega arith in
+    absurd (omega (arith, spot-is r b w′ h′ q′ k′ d t, A b, is-self b, rw z at (spot-is r b w h q k d s), is-no b 0 d))))
     (λ y.
-      let b = dataBlock w h k r in
-      let d : b ≡ 0 → ⊥ = λ o. omega arith in
-      sym (is-eq b (dataBlock w′ h′ k′ r) (omega (arith, spot-is r b w h q k d s, spot-is r b w′ h′ q′ k′ d t, A b, is-self b))))
+    let b = dataBlock w h k r in
+    let d : b ≡ 0 → ⊥ = λ o. omega arith in
+    sym (is-eq b (dataBlock w′ h′ k′ r) (omega (arith, spot-is r b w h q k d s, spot-is r b w′ h′ q′ k′ d t, A b, is-self b))))
 
 pub still-data : {n : ℕ} {w : Bytes} {h q k : ℕ} {w′ : Bytes} → Still n w h q k w′ → (r : ℕ) → q ≡ above h r → dataBlock w′ h k r ≡ dataBlock w h k r
 still-data {w = w} {h} {q} {k} {w′} A r s = same-data w h q k w′ h q k r (λ b. A .weights (spot r b)) s s
@@ -120,12 +122,13 @@ data-apart {w = w} {h} {q} {k} F r s m o d z e =
     let b = dataBlock w h k r in
     let all = has-split w h q k b in
     let two : weigh (spot s b) w h q k ≡ 1 = spot-is s b w h q k z o ∙ rw e (is-self b) in
-    omega
-    (arith,
+    omega (
+      arith,
       data-spot w h q k r m z,
       leaves-split r b w h q k,
       weigh-le (spot s b) (else-where r b) w h q k (λ l t x _. go l t x),
-      F .apart b (F .range b (data-has w h q k r m z)))
+      F .apart b (F .range b (data-has w h q k r m z)),
+    )
   where
     go : (l t x : ℕ) → spot s (dataBlock w h k r) l t x ≤ else-where r (dataBlock w h k r) l t x
     go zero t x = at (eqb r t) refl (eqb s t) refl
@@ -151,14 +154,15 @@ module _ {n e : ℕ} {w : Bytes} {h q k : ℕ} {w′ : Bytes} {h′ q′ k′ : 
   new-blank r t d z =
       let b = dataBlock w′ h′ k′ r in
       A .fresh b (data-leaf w′ h′ q′ k′ r t d)
-      (omega
-      (arith,
+      (omega (
+        arith,
         leaves-split r b w h q k,
         leaves-split r b w′ h′ q′ k′,
         data-spot w′ h′ q′ k′ r t d,
         A .grows (else-where r b),
         has-split w′ h′ q′ k′ b,
-        F .apart b (F .range b (data-has w′ h′ q′ k′ r t d))))
+        F .apart b (F .range b (data-has w′ h′ q′ k′ r t d)),
+      ))
 
 -- Bytes of a file.
 module _ (v : Bytes) (h k i : ℕ) where
@@ -175,8 +179,8 @@ pub file-same : (w : Bytes) (h k : ℕ) (w′ : Bytes) (h′ k′ i : ℕ) → d
 file-same w h k w′ h′ k′ i e f =
     by-zero (dataBlock w h k (i / 512)) (λ z. file-hole w′ h′ k′ i (e ∙ z) ∙ sym (file-hole w h k i z))
     (λ p.
-      let d : dataBlock w h k (i / 512) ≡ 0 → ⊥ = λ t. omega arith in
-      file-full w′ h′ k′ i (λ t. d (sym e ∙ t)) ∙ rw e (f d (i % 512) (omega arith)) ∙ sym (file-full w h k i d))
+    let d : dataBlock w h k (i / 512) ≡ 0 → ⊥ = λ t. omega arith in
+    file-full w′ h′ k′ i (λ t. d (sym e ∙ t)) ∙ rw e (f d (i % 512) (omega arith)) ∙ sym (file-full w h k i d))
 
 module _ {n e : ℕ} {w : Bytes} {h q k : ℕ} {w′ : Bytes} {h′ q′ k′ : ℕ} (A : Work n e w h q k w′ h′ q′ k′) (F : Fit n w′ h′ q′ k′) (i : ℕ) (t : q′ ≡ above h′ (i / 512)) where
   -- what was no part of the file reads as zero
@@ -184,8 +188,8 @@ module _ {n e : ℕ} {w : Bytes} {h q k : ℕ} {w′ : Bytes} {h′ q′ k′ : 
   work-zero z =
       by-zero (dataBlock w′ h′ k′ (i / 512)) (file-hole w′ h′ k′ i)
       (λ p.
-        let d : dataBlock w′ h′ k′ (i / 512) ≡ 0 → ⊥ = λ y. omega arith in
-        file-full w′ h′ k′ i d ∙ new-blank A F (i / 512) t d (z (dataBlock w′ h′ k′ (i / 512)) d) (i % 512) (omega arith))
+      let d : dataBlock w′ h′ k′ (i / 512) ≡ 0 → ⊥ = λ y. omega arith in
+      file-full w′ h′ k′ i d ∙ new-blank A F (i / 512) t d (z (dataBlock w′ h′ k′ (i / 512)) d) (i % 512) (omega arith))
 
   -- and what was reads the same
   pub work-byte : q ≡ above h (i / 512) → fileByte w′ h′ k′ i ≡ fileByte w h k i
@@ -193,6 +197,6 @@ module _ {n e : ℕ} {w : Bytes} {h q k : ℕ} {w′ : Bytes} {h′ q′ k′ : 
       by-zero (dataBlock w h k (i / 512))
       (λ z. work-zero (λ b d. spot-is (i / 512) b w h q k d s ∙ rw z (is-no b 0 d)) ∙ sym (file-hole w h k i z))
       (λ p.
-        let d : dataBlock w h k (i / 512) ≡ 0 → ⊥ = λ y. omega arith in
-        file-same w h k w′ h′ k′ i (grown-data w h q k w′ h′ q′ k′ (i / 512) (A .grows) s t d)
-        (λ _. A .data-kept (dataBlock w h k (i / 512)) (data-leaf w h q k (i / 512) s d)))
+      let d : dataBlock w h k (i / 512) ≡ 0 → ⊥ = λ y. omega arith in
+      file-same w h k w′ h′ k′ i (grown-data w h q k w′ h′ q′ k′ (i / 512) (A .grows) s t d)
+      (λ _. A .data-kept (dataBlock w h k (i / 512)) (data-leaf w h q k (i / 512) s d)))

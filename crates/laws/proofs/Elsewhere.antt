@@ -1,36 +1,35 @@
 -- Every read of another file gives what it gave before a call on the file a: by the same path, the same answer, byte for byte.
-use Prim.Native.Nat.{ℕ, zero, suc, _+_, _-_, _*_, _≤_, _<_, _/_, _%_, min}
+use Prim.Native.Nat.{ℕ, zero, suc, _+_, _*_, _≤_, _/_, _%_}
 use mathlib.Core.Path.{_≡_, refl, sym, ap, _∙_, fun-ext}
-use mathlib.Core.List.{List, [], _∷_}
-use mathlib.Core.Bool.{Bool, true, false, not, false≢true}
-use lib.Dec.{leb, ltb, eqb}
+use mathlib.Core.List.{List, _∷_}
+use mathlib.Core.Bool.{Bool, true, false, false≢true}
 use native.Mathlib.Omega.{arith}
 use native.Mathlib.Nat.{add-assoc}
-use Rattle.model.specs.Bytes.{Bytes, Octets, count, paste, from, _and_}
-use Rattle.model.specs.Directory.{Sort, file, sort, isDirectory, at, volume, volumeBlock, access, key, eof, kids, Target}
-use Rattle.model.specs.File.{pointer, above, dataBlock, fileByte, height, content, nodes, blocks}
-use Rattle.model.specs.Sound.{wholeBlocks, prodos, sound}
+use Rattle.model.specs.Bytes.{Bytes, Octets}
+use Rattle.model.specs.Directory.{file, sort, isDirectory, at, volume, volumeBlock, access, key, eof}
+use Rattle.model.specs.File.{pointer, above, dataBlock, content}
+use Rattle.model.specs.Sound.{sound}
 use Rattle.model.specs.Refusals.{Row, row, first, settle}
-use Rattle.model.specs.Read.{Filled, filled, toRead, filledFrom, readNumber, read}
+use Rattle.model.specs.Read.{filled, toRead, filledFrom, readNumber, read}
 use Rattle.model.specs.Write.{write}
 use Rattle.model.specs.SetEof.{setEof}
 use Rattle.model.specs.declared.Stamp.{Stamp}
-use Rattle.model.specs.Calls.{total, home, spot, target, isNoVolume, isNoDirectory, isMissing, allows, readBit}
+use Rattle.model.specs.Calls.{total, home, spot, target, isNoVolume, isNoDirectory, isMissing}
 use Rattle.model.proofs.ByteLaws.{at-or-off, word-same, long-same}
 use Rattle.model.proofs.RefusalLaws.{first-applies, first-passes, settle-refused, settle-accepted}
 use Rattle.laws.proofs.Frame.{Alike, pointer-in}
 use Rattle.laws.proofs.Sound.{Sound, facts-sound}
 use Rattle.laws.proofs.Keep.{field-at, eof-at, file-blocks}
 use Rattle.laws.proofs.Facts.{volume-directory, seen-proper}
-use Rattle.laws.proofs.One.{Place, Kept, Others}
+use Rattle.laws.proofs.One.{Kept, Others}
 use Rattle.laws.proofs.Lookup.{first-zero, entry-led, target-led}
 use Rattle.laws.proofs.Weigh.{has, nodes-count, has-key, part-has}
 use Rattle.laws.proofs.Data.{file-same}
 use Rattle.laws.proofs.Need.{data-hole, data-at}
 use Rattle.laws.proofs.Paths.{SameNames, target-same}
 use Rattle.laws.proofs.Opened.{file-is}
-use Rattle.laws.proofs.Written.{Wrote, write-done}
-use Rattle.laws.proofs.Reset.{Reset, set-eof-done}
+use Rattle.laws.proofs.Written.{write-done}
+use Rattle.laws.proofs.Reset.{set-eof-done}
 
 -- A file's bytes are read from its blocks alone.
 data-in : (v : Bytes) (h q k r : ℕ) → (dataBlock v h k r ≡ 0 → ⊥) → 1 ≤ has v h q k (dataBlock v h k r)
@@ -38,11 +37,11 @@ data-in v zero q k r d = unfold dataBlock in has-key v 0 q k
 data-in v (suc h) q k r d =
     at-or-off (pointer v k (above h r % 256)) 0 (λ e. absurd (d (data-hole h k r v e)))
     (λ z.
-      let c = pointer v k (above h r % 256) in
-      let e : dataBlock v (suc h) k r ≡ dataBlock v h c r = data-at h k r c v refl z in
-      rw e
-      (omega
-      (arith, data-in v h (q * 256 + above h r % 256) c r (λ y. d (e ∙ y)), part-has v h q k (above h r % 256) (dataBlock v h c r) (omega arith) z)))
+    let c = pointer v k (above h r % 256) in
+    let e : dataBlock v (suc h) k r ≡ dataBlock v h c r = data-at h k r c v refl z in
+    rw e
+    (omega
+    (arith, data-in v h (q * 256 + above h r % 256) c r (λ y. d (e ∙ y)), part-has v h q k (above h r % 256) (dataBlock v h c r) (omega arith) z)))
 
 data-same : (v v′ : Bytes) (h q k r : ℕ) → ((b : ℕ) → 1 ≤ has v h q k b → Alike 512 v v′ b) → dataBlock v′ h k r ≡ dataBlock v h k r
 data-same v v′ zero q k r f = unfold dataBlock in refl
@@ -51,9 +50,9 @@ data-same v v′ (suc h) q k r f =
     let e : pointer v′ k i ≡ pointer v k i = pointer-in v v′ k i (f k (has-key v (suc h) q k)) (omega arith) in
     at-or-off (pointer v k i) 0 (λ z. data-hole h k r v′ (e ∙ z) ∙ sym (data-hole h k r v z))
     (λ z.
-      data-at h k r (pointer v k i) v′ e z
-      ∙ data-same v v′ h (q * 256 + i) (pointer v k i) r (λ b m. f b (omega (arith, part-has v h q k i b (omega arith) z)))
-      ∙ sym (data-at h k r (pointer v k i) v refl z))
+    data-at h k r (pointer v k i) v′ e z
+    ∙ data-same v v′ h (q * 256 + i) (pointer v k i) r (λ b m. f b (omega (arith, part-has v h q k i b (omega arith) z)))
+    ∙ sym (data-at h k r (pointer v k i) v refl z))
 
 -- another file keeps its bytes, its end and its access
 module _ {v w : Bytes} {x h : ℕ} (K : Kept v w x) (f : sort v x ≡ file h) (proper : x ≡ volume → ⊥) where
@@ -73,7 +72,7 @@ module _ {v w : Bytes} {x h : ℕ} (K : Kept v w x) (f : sort v x ≡ file h) (p
   pub kept-content : content w x ≡ content v x
   kept-content =
       let mine : (b : ℕ) → 1 ≤ has v h 0 (key v x) b → Alike 512 v w b =
-        λ b m. K .bytes b (rw (file-blocks v x h f, nodes-count v h 0 (key v x) b) m) in
+      λ b m. K .bytes b (rw (file-blocks v x h f, nodes-count v h 0 (key v x) b) m) in
       rw (K .sorted, f, kept-key)
       (fun-ext (λ i. file-same v h (key v x) w h (key v x) i (data-same v w h 0 (key v x) (i / 512) mine)
       (λ d. mine (dataBlock v h (key v x) (i / 512)) (data-in v h 0 (key v x) (i / 512) d))))
@@ -143,11 +142,12 @@ module _ (len : ℕ) {v w : Bytes} {a : ℕ} (S : Sound (total len) v) (S′ : S
   unfolding read settle
   read-same q b m =
       let same = number-same q m in
-      rw (target-same S N p k)
-      (same,
+      rw (target-same S N p k) (
+        same,
         at-or-off (readNumber len v p k q m (target v p k)) 0
-        (λ e. settle-accepted _ (filled 0 b) w _ w (same ∙ e) .0 ∙ filled-same (done-equal q m e) q b m ∙ sym (settle-accepted _ (filled 0 b) v _ v e .0))
-        (λ e. settle-refused _ (filled 0 b) w _ w (λ z. e (sym same ∙ z)) .0 ∙ sym (settle-refused _ (filled 0 b) v _ v e .0)))
+            (λ e. settle-accepted _ (filled 0 b) w _ w (same ∙ e) .0 ∙ filled-same (done-equal q m e) q b m ∙ sym (settle-accepted _ (filled 0 b) v _ v e .0))
+            (λ e. settle-refused _ (filled 0 b) w _ w (λ z. e (sym same ∙ z)) .0 ∙ sym (settle-refused _ (filled 0 b) v _ v e .0)),
+      )
 
 -- After write and after set EOF.
 module _ (len : ℕ) (v p : Bytes) (k pos : ℕ) (buffer : Bytes) (size : ℕ) (t : Stamp) (octets : Octets v) (lent : Octets buffer)

@@ -1,7 +1,7 @@
 -- A call on one file: from a sound volume to its tree, and from a move of the tree and the entry's new bytes to a sound volume.
-use Prim.Native.Nat.{ℕ, zero, suc, _+_, _-_, _*_, _≤_, _<_, _/_, _%_}
+use Prim.Native.Nat.{ℕ, _+_, _-_, _*_, _≤_, _<_, _/_, _%_}
 use mathlib.Core.Path.{_≡_, refl, sym, ap, _∙_}
-use mathlib.Core.List.{List, [], _∷_, _++_}
+use mathlib.Core.List.{[]}
 use mathlib.Core.Bool.{Bool, true, false}
 use lib.Dec.{leb}
 use lib.ListN.{length}
@@ -10,25 +10,24 @@ use native.Mathlib.Nat.{add-zero, add-assoc}
 use borrow.Author.Tests.{lt-leb}
 use Rattle.model.specs.Bytes.{Bytes, Octets, sum, count, run, is, one-if}
 use Rattle.model.specs.Names.{capitalName}
-use Rattle.model.specs.Map.{mapBlocks, free, restClear}
+use Rattle.model.specs.Map.{mapBlocks}
 use Rattle.model.specs.Kinds.{kindFor, kindNumber}
-use Rattle.model.specs.declared.Kind.{Kind}
 use Rattle.model.specs.declared.Kind.the-variants.{Seedling, Sapling, Tree}
-use Rattle.model.specs.Directory.{Sort, directory, file, sort, isActive, isDirectory, access, at, directoryType, mapPlace, volume, volumeBlock, field, ftype, key, used, eof, directoryKey, kids}
+use Rattle.model.specs.Directory.{directory, file, sort, isActive, isDirectory, access, at, directoryType, mapPlace, volume, volumeBlock, ftype, key, used, eof, directoryKey, kids}
 use Rattle.model.specs.File.{nodes, blocks, span, heightFor, above, dataBlock, fileByte, content}
-use Rattle.model.specs.Sound.{outside, late, twins, fileFaults, faultsOf, faults}
+use Rattle.model.specs.Sound.{outside, late, fileFaults, faultsOf, faults}
 use Rattle.model.specs.Calls.{allows, readBit}
 use Rattle.model.specs.Write.{noted}
 use Rattle.model.specs.declared.Stamp.{Stamp}
 use Rattle.model.proofs.BitLaws.{is-yes, is-no, MapSame, same-free, same-rest}
 use Rattle.model.proofs.ByteLaws.{at-or-off, word-same, long-bound}
-use Rattle.model.proofs.SumLaws.{is-self, count-none, run-has}
+use Rattle.model.proofs.SumLaws.{count-none, run-has}
 use Rattle.laws.proofs.Total.{total-one}
 use Rattle.laws.proofs.Frame.{at-block, at-place, Alike}
-use Rattle.laws.proofs.Sound.{deep, top, sums, fixed, mine, Sound}
+use Rattle.laws.proofs.Sound.{deep, top, fixed, mine, Sound}
 use Rattle.laws.proofs.Keep.{head-name, field-at, eof-at, ftype-at, file-blocks, kids-same}
 use Rattle.laws.proofs.Facts.{FileRight, EntryRight, seen-file, kid-right, mine-in, mine-once, mine-map, mine-apart, placed-apart, directory-key, seen-directory}
-use Rattle.laws.proofs.One.{leaf, file-directory, Place, slot-placed, slot-mine, head-mine, slot-head, Touch, in-slot, in-file, Apart, Others, Step, Change, one-keeps, one-volume, one-entry, one-directory, one-sound, one-others}
+use Rattle.laws.proofs.One.{leaf, file-directory, Place, slot-placed, slot-mine, head-mine, slot-head, in-slot, in-file, Apart, Others, Step, Change, one-keeps, one-volume, one-entry, one-directory, one-sound, one-others}
 use Rattle.laws.proofs.Weigh.{Gauge, weigh, each, tardy, has, size, weigh-zero, weigh-same, nodes-count, nodes-length, blocks-length, nodes-late, nodes-outside}
 use Rattle.laws.proofs.Move.{by-zero, map-low, map-alike, Fit, Move, move-fit, fit-key}
 use Rattle.laws.proofs.Room.{size-most}
@@ -65,7 +64,7 @@ module _ {n : ℕ} {v : Bytes} {a d h : ℕ} (R : Ready n v a d h) where
         apart = λ b l. omega (arith, S .once b l, own-most b);
         boot = unfold sum in omega (arith, S .once 0 (omega (arith, S .large)), own-most 0);
         plan = λ b p q.
-          omega (arith, S .once b (map-low n b (S .large) q), own-most b, in-fixed b (run-has (mapBlocks n) mapPlace b p q));
+            omega (arith, S .once b (map-low n b (S .large) q), own-most b, in-fixed b (run-has (mapBlocks n) mapPlace b p q));
       }
     where
       in-fixed : (b : ℕ) → 1 ≤ count b (run mapPlace (mapBlocks n)) → 1 ≤ count b (fixed n)
@@ -119,13 +118,14 @@ file-none : (n : ℕ) (v : Bytes) (g m d s : ℕ) → capitalName v (at s) ≡ t
     → faultsOf (file g) n v m d s ≡ 0
 unfolding faultsOf fileFaults
 file-none n v g m d s name up type tall few ended inside =
-    omega
-    (arith,
+    omega (
+      arith,
       ap one-if name,
       is-yes (directoryKey v s) (key v d) up,
       is-no (ftype v s) directoryType type,
       is-yes g (heightFor (eof v s)) tall,
-      is-yes (used v s) (length (blocks v s)) few)
+      is-yes (used v s) (length (blocks v s)) few,
+    )
 
 -- A move of the tree, then the entry that says so.
 module _ {n : ℕ} {v : Bytes} {a d h : ℕ} (R : Ready n v a d h) {w : Bytes} {g k : ℕ} (T : Move n v h 0 (key v a) w g 0 k) (e : ℕ) (t : Stamp)
@@ -207,22 +207,22 @@ module _ {n : ℕ} {v : Bytes} {a d h : ℕ} (R : Ready n v a d h) {w : Bytes} {
       let old = right R in
       let name : capitalName called (at a) ≡ true = capital-near near ∙ E .name in
       let up-w : directoryKey w a ≡ directoryKey v a =
-        field-at w a 0x25 volumeBlock (P .proper)
-        ∙ word-same w v _ _ (slot-alike 0x25 (omega arith)) (rw (add-assoc (at a) 0x25 1) (slot-alike 0x26 (omega arith)))
-        ∙ sym (field-at v a 0x25 volumeBlock (P .proper)) in
+      field-at w a 0x25 volumeBlock (P .proper)
+      ∙ word-same w v _ _ (slot-alike 0x25 (omega arith)) (rw (add-assoc (at a) 0x25 1) (slot-alike 0x26 (omega arith)))
+      ∙ sym (field-at v a 0x25 volumeBlock (P .proper)) in
       let up : directoryKey called a ≡ key called d = noted-up w a g k e t (P .proper) ∙ up-w ∙ E .up ∙ sym (one-directory step) in
       let type : ftype called a ≡ ftype v a =
-        noted-type w a g k e t (P .proper)
-        ∙ ftype-at w a (P .proper)
-        ∙ slot-alike 0x10 (omega arith)
-        ∙ sym (ftype-at v a (P .proper)) in
+      noted-type w a g k e t (P .proper)
+      ∙ ftype-at w a (P .proper)
+      ∙ slot-alike 0x10 (omega arith)
+      ∙ sym (ftype-at v a (P .proper)) in
       let long-blocks : length (blocks called a) ≡ size w g 0 k =
-        rw (file-blocks called a g called-sort, called-key) (blocks-length called g 0 k ∙ read (each (λ _. 1))) in
+      rw (file-blocks called a g called-sort, called-key) (blocks-length called g 0 k ∙ read (each (λ _. 1))) in
       let in-range : outside n (blocks called a) ≡ 0 =
-        rw (file-blocks called a g called-sort, called-key)
-        (nodes-outside called g 0 k n
-        ∙ read (each (λ b. one-if (leb n b)))
-        ∙ weigh-zero (each (λ b. one-if (leb n b))) w g 0 k (λ _ _ b s. rw (lt-leb n b (T .range b s)) refl)) in
+      rw (file-blocks called a g called-sort, called-key)
+      (nodes-outside called g 0 k n
+      ∙ read (each (λ b. one-if (leb n b)))
+      ∙ weigh-zero (each (λ b. one-if (leb n b))) w g 0 k (λ _ _ b s. rw (lt-leb n b (T .range b s)) refl)) in
       rw called-sort
       (file-none n called g m d a name up (λ z. old .typed (sym type ∙ z)) (rw called-eof tall) (called-used ∙ sym long-blocks)
       (rw (called-key, called-eof) (nodes-late called g 0 k (span e) ∙ read (tardy (span e)) ∙ ends)) in-range)
@@ -233,9 +233,9 @@ module _ {n : ℕ} {v : Bytes} {a d h : ℕ} (R : Ready n v a d h) {w : Bytes} {
       noted-out w a g k e t _ (slot-head S P d j (P .home) (P .holds) (omega arith) (omega arith))
       ∙ other-alike (key v d) (head-mine S P)
       (by-zero (has v h 0 (key v a) (key v d)) (λ z. z) (λ m.
-        absurd
-        (not-directory R
-        (rw (mine-apart S a d (key v d) (P .seen) (P .home) (rw (own-tree R (key v d)) m) (directory-key S d (P .home) (P .holds))) (P .holds)))))
+      absurd
+      (not-directory R
+      (rw (mine-apart S a d (key v d) (P .seen) (P .home) (rw (own-tree R (key v d)) m) (directory-key S d (P .home) (P .holds))) (P .holds)))))
       j (omega arith)
 
   change : Change n v called a d 0 [] [] []
@@ -250,15 +250,15 @@ module _ {n : ℕ} {v : Bytes} {a d h : ℕ} (R : Ready n v a d h) {w : Bytes} {
         level = omega arith;
         entry = λ m. omega (arith, called-right m);
         counted =
-          rw (called-sort, R .kind)
-          (ap (λ (x : ℕ). x + 1)
-          (word-same called v _ _ (head-kept 37 (omega arith) (omega arith))
-          (rw (add-assoc (key v d * 512) 37 1) (head-kept 38 (omega arith) (omega arith)))));
+            rw (called-sort, R .kind)
+            (ap (λ (x : ℕ). x + 1)
+            (word-same called v _ _ (head-kept 37 (omega arith) (omega arith))
+            (rw (add-assoc (key v d * 512) 37 1) (head-kept 38 (omega arith) (omega arith)))));
         unlike =
-          twins-near v called (kids v d) (λ s c. at-or-off s a
-          (λ z. rw z (rw (called-sort, R .kind) refl, near))
-          (λ z. let o = one-entry step d s (P .home) c z in (ap isActive (o .0), named-near (o .1))))
-          ∙ seen-directory S d (P .home) (P .holds) .unlike;
+            twins-near v called (kids v d) (λ s c. at-or-off s a
+            (λ z. rw z (rw (called-sort, R .kind) refl, near))
+            (λ z. let o = one-entry step d s (P .home) c z in (ap isActive (o .0), named-near (o .1))))
+            ∙ seen-directory S d (P .home) (P .holds) .unlike;
         balance = λ b l. omega (arith, called-blocks b, own-tree R b, T .level b l, same-free mapPlace n w called map-called b l);
         rest = same-rest mapPlace n w called map-called (T .rest);
       }
@@ -276,8 +276,8 @@ module _ {n : ℕ} {v : Bytes} {a d h : ℕ} (R : Ready n v a d h) {w : Bytes} {
       record {
         slots = λ x m f. kids-same v called x (one-keeps step x m (λ z. not-directory R (rw z at f)));
         entry = λ x s m c. at-or-off s a
-          (λ z. rw z (record { alive = rw (called-sort, R .kind) refl; folder = rw (called-sort, R .kind) refl; near = near }))
-          (λ z.
+            (λ z. rw z (record { alive = rw (called-sort, R .kind) refl; folder = rw (called-sort, R .kind) refl; near = near }))
+            (λ z.
             let o = one-entry step x s m c z in
             record { alive = ap isActive (o .0); folder = ap isDirectory (o .0); near = named-near (o .1) });
         top = named-near (unfold at in head-name v called volumeBlock (one-volume step));

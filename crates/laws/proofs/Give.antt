@@ -1,26 +1,24 @@
 -- Blocks given back: a key gives way, a late part is cut off.
-use Prim.Native.Nat.{ℕ, zero, suc, _+_, _-_, _*_, _≤_, _<_, _/_, _%_}
-use mathlib.Core.Path.{_≡_, refl, sym, ap, _∙_}
-use mathlib.Core.List.{List, [], _∷_}
+use Prim.Native.Nat.{ℕ, zero, suc, _+_, _*_, _≤_, _<_}
+use mathlib.Core.Path.{_≡_, refl, sym, _∙_}
+use mathlib.Core.List.{List}
 use mathlib.Core.Bool.{Bool, true, false}
-use lib.Dec.{leb, ltb, eqb}
+use lib.Dec.{eqb}
 use native.Mathlib.Omega.{arith}
-use borrow.Author.Tests.{eqb-true, eqb-false, eq-eqb, ne-eqb, leb-true, leb-false, le-leb, lt-leb}
-use Rattle.model.specs.Bytes.{Bytes, Octets, sum, count, gather, run, is, one-if, clear}
-use Rattle.model.specs.Map.{mapBlocks, mapAt, free, given, restClear}
+use borrow.Author.Tests.{eqb-true, eqb-false, eq-eqb, ne-eqb}
+use Rattle.model.specs.Bytes.{Bytes, Octets, sum, count, gather, run, is, clear}
+use Rattle.model.specs.Map.{mapAt, free, given, restClear}
 use Rattle.model.specs.Directory.{mapPlace}
-use Rattle.model.specs.File.{pointer, putPointer, firstBelow, limb, nodes, blocksIn}
+use Rattle.model.specs.File.{pointer, limb, nodes, blocksIn}
 use Rattle.model.specs.Calls.{givenAll}
-use Rattle.model.specs.SetEof.{lowered, heir, sunk, sunkKey, eachPointer, trimmed, pruned}
+use Rattle.model.specs.SetEof.{lowered, heir, sunk, sunkKey}
 use Rattle.model.proofs.ByteLaws.{at-or-off, clear-in, clear-out, octets-clear}
-use Rattle.model.proofs.BitLaws.{is-yes, is-no, is-both, free-most, mapAt-in, given-free, given-octets, rest-given, same-free, same-rest}
-use Rattle.model.proofs.SumLaws.{is-self, is-eq, sum-gather, sum-eq, run-in}
-use Rattle.laws.proofs.Frame.{Alike, holds, pointer-in}
+use Rattle.model.proofs.BitLaws.{is-both, free-most, mapAt-in, given-free, given-octets, rest-given, same-free, same-rest}
+use Rattle.model.proofs.SumLaws.{is-self, is-eq, sum-gather, sum-eq}
+use Rattle.laws.proofs.Frame.{Alike, holds}
 use Rattle.laws.proofs.Destroy.{all-out, all-octets, all-free, all-rest}
-use Rattle.laws.proofs.Weigh.{upto, upto-le, upto-eq, upto-zero, run-upto, Gauge, arm, weigh, each, tardy, has, part, arm-hole, arm-full, weigh-nodes, nodes-count, part-le, has-key, part-has, weigh-one, part-same, weigh-same, part-zero, weigh-zero, Blank, weigh-blank, leaves, indexes, has-split, key-index}
-use Rattle.laws.proofs.Move.{by-zero, by-lt, Off, map-alike, pointer-off, pointer-at, pointer-other, octets-pointer, given-alike, Fit, Move, move-none, move-fit, fit-off, fit-key, move-then, fit-below, lift, lift-kept, lift-part, lift-full, lift-weigh}
-use Rattle.laws.proofs.Take.{first-le}
-use Rattle.laws.proofs.Data.{when}
+use Rattle.laws.proofs.Weigh.{upto, run-upto, Gauge, arm, weigh, each, has, part, arm-hole, arm-full, weigh-nodes, has-key, part-has, weigh-same, Blank, weigh-blank}
+use Rattle.laws.proofs.Move.{by-zero, Off, map-alike, given-alike, Fit, Move, move-none, move-fit, fit-off, fit-key, move-then}
 
 -- the blocks counted by o are given back, and only the map is written
 pub record Freed (n : ℕ) (w : Bytes) (o : ℕ → ℕ) (w′ : Bytes) : Type 0 where
@@ -38,7 +36,7 @@ freed-all {n} {w} {h} {q} {k} F bs f =
       rest = all-rest mapPlace n w bs (F .bytes) (λ c m. F .range c (omega (arith, f c))) (F .rest);
       kept = λ b o j l. all-out mapPlace w bs (b * 512 + j) (λ c m e. in-map b o j l c (F .range c (omega (arith, f c))) e);
       freed = all-free mapPlace w bs (F .bytes) (λ c. by-zero (count c bs) (λ z. omega (arith, free-most mapPlace w c))
-        (λ m. omega (arith, f c, F .apart c (F .range c (omega (arith, f c))))));
+          (λ m. omega (arith, f c, F .apart c (F .range c (omega (arith, f c))))));
     }
   where
     in-map : (b : ℕ) → Off n b → (j : ℕ) → j < 512 → (c : ℕ) → c < n → b * 512 + j ≡ mapAt mapPlace c → ⊥
@@ -121,10 +119,14 @@ module _ {n : ℕ} {w : Bytes} {h k : ℕ} (F : Fit n w (suc h) 0 k) where
           rest = same-rest mapPlace n shorn _ same (shorn-freed .rest);
           range = λ b m. rw (is-eq b k (omega (arith, alone b))) (fit-key F);
           level = λ b l.
-            omega
-            (arith,
-              alone b, key-split (each (is b)) h 0 k w, arm-hole (λ r p. has w h r p b) w 0 k 0 hole, shorn-free b,
-              same-free mapPlace n shorn (clear shorn (k * 512) 512) same b l);
+              omega (
+                arith,
+                alone b,
+                key-split (each (is b)) h 0 k w,
+                arm-hole (λ r p. has w h r p b) w 0 k 0 hole,
+                shorn-free b,
+                same-free mapPlace n shorn (clear shorn (k * 512) 512) same b l,
+              );
           same = λ b l z m j q. cleared-alike b (λ e. omega (arith, has-key w (suc h) 0 k, rw e at z)) j q ∙ shorn-freed .kept b m j q;
         }
 
@@ -147,17 +149,22 @@ module _ {n : ℕ} {w : Bytes} {h k : ℕ} (F : Fit n w (suc h) 0 k) where
     left-move : Move n w (suc h) 0 k (given mapPlace shorn k) h 0 (pointer w k 0)
     left-move =
         let same : (b : ℕ) → has (given mapPlace shorn k) h 0 (pointer w k 0) b ≡ has w h 0 (pointer w k 0) b =
-          λ b. weigh-same (each (is b)) w _ h 0 (pointer w k 0) heir-in in
+        λ b. weigh-same (each (is b)) w _ h 0 (pointer w k 0) heir-in in
         record {
           bytes = given-octets mapPlace shorn k (shorn-freed .bytes);
           rest = rest-given mapPlace shorn k n (shorn-freed .bytes) (fit-key F) (shorn-freed .rest);
           range = λ b m. F .range b (omega (arith, same b, part-has w h 0 k 0 b (omega arith) full));
           level = λ b l.
-            let back = given-free mapPlace shorn k b (shorn-freed .bytes) in
-            omega
-            (arith,
-              same b, key-split (each (is b)) h 0 k w, arm-full (λ r p. has w h r p b) w 0 k 0 full, shorn-free b,
-              rw key-none at back, is-both k b b k sym sym);
+              let back = given-free mapPlace shorn k b (shorn-freed .bytes) in
+              omega (
+                arith,
+                same b,
+                key-split (each (is b)) h 0 k w,
+                arm-full (λ r p. has w h r p b) w 0 k 0 full,
+                shorn-free b,
+                rw key-none at back,
+                is-both k b b k sym sym,
+              );
           same = λ b l z m. left-kept b m;
         }
 

@@ -1,25 +1,24 @@
 -- A file as EOF grows: its bytes at old EOF and after zeroed, then new keys.
-use Prim.Native.Nat.{ℕ, zero, suc, _+_, _-_, _*_, _≤_, _<_, _/_, _%_}
+use Prim.Native.Nat.{ℕ, _+_, _-_, _≤_, _<_, _/_}
 use mathlib.Core.Path.{_≡_, refl, sym, ap, subst, _∙_}
 use mathlib.Core.Bool.{Bool, true, false}
-use lib.Dec.{leb, ltb, eqb}
+use lib.Dec.{leb, ltb}
 use native.Mathlib.Omega.{arith}
-use borrow.Author.Tests.{leb-true, leb-false, ltb-true, ltb-false}
-use Rattle.model.specs.Bytes.{Bytes, is, one-if}
+use borrow.Author.Tests.{leb-true, leb-false, ltb-false}
+use Rattle.model.specs.Bytes.{Bytes, one-if}
 use Rattle.model.specs.Map.{room}
 use Rattle.model.specs.Kinds.{kindFor, kindNumber}
-use Rattle.model.specs.declared.Kind.{Kind}
 use Rattle.model.specs.declared.Kind.the-variants.{Seedling, Sapling, Tree}
-use Rattle.model.specs.Directory.{sort, file, mapPlace, key, eof}
+use Rattle.model.specs.Directory.{mapPlace, key, eof}
 use Rattle.model.specs.File.{span, heightFor, height, above, firstBelow, fileByte}
 use Rattle.model.specs.Grow.{zeroedFrom, raised, raisedKey}
 use Rattle.model.specs.Write.{grown, grownKey}
 use Rattle.laws.proofs.Weigh.{Gauge, weigh, each, tardy, size, weigh-le}
 use Rattle.laws.proofs.Move.{by-lt, Fit, Move, move-fit, move-then}
-use Rattle.laws.proofs.Take.{Work, Still, still-none}
+use Rattle.laws.proofs.Take.{Still, still-none}
 use Rattle.laws.proofs.Room.{move-room, Raised, raised-work}
-use Rattle.laws.proofs.Data.{spot, late-hole, work-zero, work-byte}
-use Rattle.laws.proofs.Pour.{Zeroed, zeroed}
+use Rattle.laws.proofs.Data.{late-hole, work-zero, work-byte}
+use Rattle.laws.proofs.Pour.{zeroed}
 use Rattle.laws.proofs.Entry.{Ready, fit, was-tall, was-late, eof-most}
 
 -- Heights and ends.
@@ -105,9 +104,9 @@ module _ {n : ℕ} {v : Bytes} {a d h : ℕ} (R : Ready n v a d h) (e : ℕ) (lo
       let G : Fit n f h 0 (key v a) = move-fit (fit R) (A .move) in
       let up : h ≤ heightFor e = rw (was-tall R) (height-le (eof v a) e longer) in
       let B : Raised n (span e) (heightFor e - h) f h (key v a) (raised mapPlace n f (key v a) (heightFor e - h)) (heightFor e)
-        (raisedKey mapPlace n f (key v a) (heightFor e - h)) =
-        raised-work n (span e) (heightFor e - h) h (heightFor e) (key v a) f (span-some e) (omega arith) G
-        (omega (arith, A .weights (each (λ _. 1)), move-room (fit R) (A .move))) in
+      (raisedKey mapPlace n f (key v a) (heightFor e - h)) =
+      raised-work n (span e) (heightFor e - h) h (heightFor e) (key v a) f (span-some e) (omega arith) G
+      (omega (arith, A .weights (each (λ _. 1)), move-room (fit R) (A .move))) in
       let H = move-fit G (B .work .move) in
       let late : weigh (tardy (span (eof v a))) f h 0 (key v a) ≡ 0 = A .weights (tardy (span (eof v a))) ∙ was-late R in
       let new-path : (i : ℕ) → i < e → 0 ≡ above (heightFor e) (i / 512) = λ i l. height-path e (i / 512) small (span-in e i l) in
@@ -117,10 +116,10 @@ module _ {n : ℕ} {v : Bytes} {a d h : ℕ} (R : Ready n v a d h) (e : ℕ) (lo
         grows = λ x. omega (arith, A .weights x, B .work .grows x);
         more = omega (arith, A .weights (each (λ _. 1)), B .more);
         below = λ i l.
-          work-byte (B .work) H i (new-path i (omega arith)) (old-path (i / 512) (span-in (eof v a) i l)) ∙ Z .below i l;
+            work-byte (B .work) H i (new-path i (omega arith)) (old-path (i / 512) (span-in (eof v a) i l)) ∙ Z .below i l;
         past = λ i l m. by-lt (i / 512) (span (eof v a))
-          (λ s. work-byte (B .work) H i (new-path i m) (old-path (i / 512) s) ∙ Z .past i l m s)
-          (λ s. work-zero (B .work) H i (new-path i m) (λ b _. late-hole (span (eof v a)) f h 0 (key v a) (i / 512) b late s));
+            (λ s. work-byte (B .work) H i (new-path i m) (old-path (i / 512) s) ∙ Z .past i l m s)
+            (λ s. work-zero (B .work) H i (new-path i m) (λ b _. late-hole (span (eof v a)) f h 0 (key v a) (i / 512) b late s));
       }
 
   -- with the height in question as x

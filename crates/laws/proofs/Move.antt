@@ -1,9 +1,9 @@
 -- Moves of one file: blocks go between its tree and the map. What a move may touch, how moves join, and that a move below one pointer is a move of
 -- the whole tree. Walk, entry and EOF play no part here.
-use Prim.Native.Nat.{ℕ, zero, suc, _+_, _-_, _*_, _≤_, _<_, _/_, _%_}
-use mathlib.Core.Path.{_≡_, refl, sym, ap, _∙_}
+use Prim.Native.Nat.{ℕ, zero, suc, _+_, _*_, _≤_, _<_, _/_, _%_}
+use mathlib.Core.Path.{_≡_, refl, sym, _∙_}
 use mathlib.Core.Bool.{Bool, true, false}
-use lib.Dec.{ltb, eqb}
+use lib.Dec.{ltb}
 use native.Mathlib.Omega.{arith}
 use borrow.Author.Tests.{ltb-true, ltb-false}
 use Rattle.model.specs.Bytes.{Bytes, Octets, put, is}
@@ -50,20 +50,22 @@ module _ (w : Bytes) (k i p : ℕ) where
   pub pointer-at : p < 65536 → pointer (putPointer w k i p) k i ≡ p
   unfolding putPointer pointer
   pointer-at h =
-      rw
-      (put-at (put w (k * 512 + i) (p % 256)) (k * 512 + 256 + i) (p / 256 % 256),
+      rw (
+        put-at (put w (k * 512 + i) (p % 256)) (k * 512 + 256 + i) (p / 256 % 256),
         put-off (put w (k * 512 + i) (p % 256)) (k * 512 + 256 + i) (p / 256 % 256) (k * 512 + i) (λ e. omega arith),
-        put-at w (k * 512 + i) (p % 256))
+        put-at w (k * 512 + i) (p % 256),
+      )
       (omega arith)
 
   pub pointer-other : (j : ℕ) → i < 256 → j < 256 → (j ≡ i → ⊥) → pointer (putPointer w k i p) k j ≡ pointer w k j
   unfolding putPointer pointer
   pointer-other j il jl d =
-      rw
-      (put-off (put w (k * 512 + i) (p % 256)) (k * 512 + 256 + i) (p / 256 % 256) (k * 512 + j) (λ e. omega arith),
+      rw (
+        put-off (put w (k * 512 + i) (p % 256)) (k * 512 + 256 + i) (p / 256 % 256) (k * 512 + j) (λ e. omega arith),
         put-off w (k * 512 + i) (p % 256) (k * 512 + j) (λ e. d (omega arith)),
         put-off (put w (k * 512 + i) (p % 256)) (k * 512 + 256 + i) (p / 256 % 256) (k * 512 + 256 + j) (λ e. d (omega arith)),
-        put-off w (k * 512 + i) (p % 256) (k * 512 + 256 + j) (λ e. omega arith))
+        put-off w (k * 512 + i) (p % 256) (k * 512 + 256 + j) (λ e. omega arith),
+      )
       refl
 
   pub octets-pointer : Octets w → Octets (putPointer w k i p)
@@ -187,11 +189,15 @@ module _ {n : ℕ} {w : Bytes} {h q k i : ℕ} (F : Fit n w (suc h) q k) (il : i
     lift-part g j m d =
         part-same g w w′ h q k j (lift-pointer j m)
         (λ z. weigh-same g w w′ h (q * 256 + j) (pointer w k j) (λ b t.
-          let some : 1 ≤ has w (suc h) q k b = omega (arith, part-has w h q k j b m z) in
-          lift-kept b some
-          (omega
-          (arith, F .apart b (F .range b some), part-two w h q k i j b il m (λ s. d (sym s)), arm-full (λ r p. has w h r p b) w q k j z,
-            arm-full (λ r p. has w h r p b) w q k i full))))
+        let some : 1 ≤ has w (suc h) q k b = omega (arith, part-has w h q k j b m z) in
+        lift-kept b some
+        (omega (
+          arith,
+          F .apart b (F .range b some),
+          part-two w h q k i j b il m (λ s. d (sym s)),
+          arm-full (λ r p. has w h r p b) w q k j z,
+          arm-full (λ r p. has w h r p b) w q k i full,
+        ))))
 
     pub lift-full : (g : Gauge) → part g w′ h q k i ≡ weigh g w′ h (q * 256 + i) (pointer w k i)
     lift-full g = let e = lift-pointer i il in rw (← e) (arm-full _ w′ q k i (λ z. full (sym e ∙ z)))
@@ -206,7 +212,7 @@ module _ {n : ℕ} {w : Bytes} {h q k i : ℕ} (F : Fit n w (suc h) q k) (il : i
           bytes = T .bytes;
           rest = T .rest;
           range = λ b m. by-zero (has w (suc h) q k b)
-            (λ z. T .range b (omega (arith, lift-weigh (each (is b))))) (F .range b);
+              (λ z. T .range b (omega (arith, lift-weigh (each (is b))))) (F .range b);
           level = λ b r. omega (arith, lift-weigh (each (is b)), T .level b r);
           same = λ b r z m. T .same b r (omega (arith, part-has w h q k i b il full)) m;
         }

@@ -1,11 +1,11 @@
 -- Names whose first byte may change in its high half, the kind: the name stays.
-use Prim.Native.Nat.{ℕ, zero, suc, _+_, _-_, _*_, _≤_, _<_, _%_}
-use mathlib.Core.Path.{_≡_, refl, sym, ap, _∙_}
+use Prim.Native.Nat.{ℕ, zero, suc, _+_, _≤_, _<_, _%_}
+use mathlib.Core.Path.{_≡_, refl, ap}
 use mathlib.Core.List.{List, [], _∷_}
-use mathlib.Core.Bool.{Bool, true, false}
+use mathlib.Core.Bool.{true, false}
 use native.Mathlib.Omega.{arith}
 use native.Mathlib.Nat.{add-zero, add-assoc}
-use Rattle.model.specs.Bytes.{Bytes, sum, count, equalBytes, _and_}
+use Rattle.model.specs.Bytes.{Bytes, sum, count, _and_}
 use Rattle.model.specs.Names.{nameByte, nameBytes, properName, capital, capitals, capitalName, alike, Part, sameName}
 use Rattle.model.specs.Directory.{at, sort, isActive}
 use Rattle.model.specs.Sound.{twinsOf, twins}
@@ -37,17 +37,22 @@ capital-near {v} {v′} {a} N =
     let k = v a % 16 in
     let g : (i : ℕ) → i < k → v′ (a + 1 + i) ≡ v (a + 1 + i) = λ i l. N .rest i (omega arith) in
     let z : v′ (a + 1) ≡ v (a + 1) = rw add-zero at (N .rest 0 (omega arith)) in
-    rw
-    (N .sized, z, bytes-near v v′ (a + 1) k g,
-      equal-cong v′ (a + 1) (λ i. capital (v′ i)) (a + 1) k v (a + 1) (λ i. capital (v i)) (a + 1) g (λ i l. ap capital (g i l)))
+    rw (
+      N .sized,
+      z,
+      bytes-near v v′ (a + 1) k g,
+      equal-cong v′ (a + 1) (λ i. capital (v′ i)) (a + 1) k v (a + 1) (λ i. capital (v i)) (a + 1) g (λ i l. ap capital (g i l)),
+    )
     refl
 
 pub alike-near : {v v′ : Bytes} {a b : ℕ} → Near v v′ a → Near v v′ b → alike v′ a b ≡ alike v a b
 unfolding alike
 alike-near {v} {v′} {a} {b} N M =
-    rw
-    (N .sized, M .sized,
-      equal-cong v′ (a + 1) v′ (b + 1) (v a % 16) v (a + 1) v (b + 1) (λ i l. N .rest i (omega arith)) (λ i l. M .rest i (omega arith)))
+    rw (
+      N .sized,
+      M .sized,
+      equal-cong v′ (a + 1) v′ (b + 1) (v a % 16) v (a + 1) v (b + 1) (λ i l. N .rest i (omega arith)) (λ i l. M .rest i (omega arith)),
+    )
     refl
 
 twin-near : (v v′ : Bytes) (s : ℕ) (ss : List ℕ) → Near v v′ (at s)
@@ -75,8 +80,9 @@ unfolding sameName
 same-near {v} {v′} {a} p x N =
     at-or-off (v a % 16) (x .size)
     (λ e.
-      rw
-      (N .sized,
-        equal-cong v′ (a + 1) (capitals p) (x .start) (x .size) v (a + 1) (capitals p) (x .start) (λ i m. N .rest i (omega arith)) (λ i m. refl))
-      refl)
+    rw (
+      N .sized,
+      equal-cong v′ (a + 1) (capitals p) (x .start) (x .size) v (a + 1) (capitals p) (x .start) (λ i m. N .rest i (omega arith)) (λ i m. refl),
+    )
+    refl)
     (λ d. unfold _and_ in rw (N .sized, ne-eqb (v a % 16) (x .size) d) refl)

@@ -1,22 +1,22 @@
 -- What is missing for a file block is taken where there is room for it; what is missing for a range of file blocks is counted before.
 use Prim.Native.Nat.{ℕ, zero, suc, _+_, _-_, _*_, _≤_, _<_, _/_, _%_, _^_}
-use mathlib.Core.Path.{_≡_, refl, sym, ap, _∙_}
+use mathlib.Core.Path.{_≡_, refl, sym, _∙_}
 use mathlib.Core.Bool.{Bool, true, false}
-use lib.Dec.{leb, ltb, eqb}
+use lib.Dec.{ltb, eqb}
 use native.Mathlib.Omega.{arith}
 use native.Mathlib.Numerals.{add-one}
 use borrow.Author.Tests.{eqb-true, eqb-false, eq-eqb, ne-eqb, ltb-true, ltb-false, lt-ltb, le-ltb}
-use Rattle.model.specs.Bytes.{Bytes, sum, count, run, is}
-use Rattle.model.specs.Map.{free, room, lowest, taken}
+use Rattle.model.specs.Bytes.{Bytes, sum, run, is}
+use Rattle.model.specs.Map.{room, lowest, taken}
 use Rattle.model.specs.Directory.{mapPlace}
 use Rattle.model.specs.File.{pointer, putPointer, above, dataBlock}
 use Rattle.model.specs.Grow.{backed, lacksBlock, lacksIndex, need}
 use Rattle.model.proofs.ByteLaws.{at-or-off}
 use Rattle.model.proofs.BitLaws.{is-yes, is-no, is-most, lowest-free, room-lowest}
 use Rattle.model.proofs.SumLaws.{is-self, sum-le, run-in}
-use Rattle.laws.proofs.Weigh.{upto, upto-one, upto-zero, Gauge, arm, weigh, each, size, part, arm-hole, arm-full, part-zero, has-key, Blank, pointer-blank}
-use Rattle.laws.proofs.Move.{by-zero, by-lt, Fit, Move, move-fit, fit-some, free-some, fit-below, lift-weigh, lift-pointer}
-use Rattle.laws.proofs.Take.{Work, hung-work, hung-weigh, hung-at, hung-blank, first-above, backed-work}
+use Rattle.laws.proofs.Weigh.{upto-one, upto-zero, Gauge, arm, weigh, each, size, arm-hole, arm-full, part-zero, has-key, Blank, pointer-blank}
+use Rattle.laws.proofs.Move.{by-lt, Fit, move-fit, fit-some, free-some, fit-below, lift-weigh, lift-pointer}
+use Rattle.laws.proofs.Take.{hung-work, hung-weigh, hung-at, hung-blank, first-above, backed-work}
 use Rattle.laws.proofs.Room.{move-room}
 use Rattle.laws.proofs.Data.{grown-data}
 
@@ -74,9 +74,10 @@ backed-complete n e (suc h) q k p w s l F m =
         × (dataBlock (backed mapPlace n x h (pointer x k i) p) (suc h) k p ≡ 0 → ⊥)
     up-from x G full C =
         let y = backed mapPlace n x h (pointer x k i) p in
-        let T = backed-work n e h (q * 256 + i) (pointer x k i) p x num l (fit-below G (omega arith) full) .move in
-        (omega (arith, C .more, lift-weigh G (omega arith) full T (each (λ _. 1))),
-          λ o. C .there (sym (data-at h k p (pointer x k i) y (lift-pointer G (omega arith) full T i (omega arith)) full) ∙ o))
+        let T = backed-work n e h (q * 256 + i) (pointer x k i) p x num l (fit-below G (omega arith) full) .move in (
+          omega (arith, C .more, lift-weigh G (omega arith) full T (each (λ _. 1))),
+          λ o. C .there (sym (data-at h k p (pointer x k i) y (lift-pointer G (omega arith) full T i (omega arith)) full) ∙ o),
+        )
 
     go : (b : Bool) → eqb (pointer w k i) 0 ≡ b → (c : Bool) → ltb z n ≡ c
         → elim b as (λ _. ℕ) [ true ↦ suc h | false ↦ miss w h (pointer w k i) p ] ≤ room mapPlace w n
@@ -105,7 +106,7 @@ backed-complete n e (suc h) q k p w s l F m =
         let r = up-from x G full (rec (q * 256 + i) (pointer x k i) x num (fit-below G (omega arith) full) (omega (arith, all, one, move-room F (A .move)))) in
         let r0 = r .0 in
         let done : Complete (suc h) q k p w (backed mapPlace n x h (pointer x k i) p) =
-          record { more = rw (miss-hole h k p w hole) (omega (arith, r0, one, all)); there = r .1 } in
+        record { more = rw (miss-hole h k p w hole) (omega (arith, r0, one, all)); there = r .1 } in
         rw place at done
 
 -- Indexes of a tree by their numbers.
@@ -122,16 +123,22 @@ pub mark-is : (i k : ℕ) (w : Bytes) → i < 256 → weigh (mark i) w 2 0 k + i
 unfolding weigh
 mark-is i k w l =
     let alone =
-      upto-one 256 i (arm (λ s p. weigh (mark i) w 1 s p) w 0 k) (λ _. 0) l
-      (λ j m d. part-zero (mark i) w 1 0 k j (λ y. mark-low i (0 * 256 + j) (pointer w k j) w ∙ is-no i (0 * 256 + j) (λ t. d (omega arith)))) in
+    upto-one 256 i (arm (λ s p. weigh (mark i) w 1 s p) w 0 k) (λ _. 0) l
+    (λ j m d. part-zero (mark i) w 1 0 k j (λ y. mark-low i (0 * 256 + j) (pointer w k j) w ∙ is-no i (0 * 256 + j) (λ t. d (omega arith)))) in
     let rest = upto-zero 256 (λ _. 0) (λ _ _. refl) in
     at-or-off (pointer w k i) 0
     (λ e. omega (arith, alone, rest, arm-hole (λ s p. weigh (mark i) w 1 s p) w 0 k i e, is-yes (pointer w k i) 0 e))
     (λ e.
-      let z : 0 * 256 + i ≡ i = omega arith in
-      omega
-      (arith, alone, rest, arm-full (λ s p. weigh (mark i) w 1 s p) w 0 k i e, is-no (pointer w k i) 0 e,
-        mark-low i (0 * 256 + i) (pointer w k i) w, is-yes i (0 * 256 + i) (sym z)))
+    let z : 0 * 256 + i ≡ i = omega arith in
+    omega (
+      arith,
+      alone,
+      rest,
+      arm-full (λ s p. weigh (mark i) w 1 s p) w 0 k i e,
+      is-no (pointer w k i) 0 e,
+      mark-low i (0 * 256 + i) (pointer w k i) w,
+      is-yes i (0 * 256 + i) (sym z),
+    ))
 
 -- growth leaves no more holes
 module _ (w : Bytes) (h k : ℕ) (w′ : Bytes) (h′ k′ : ℕ) (grows : (g : Gauge) → weigh g w h 0 k ≤ weigh g w′ h′ 0 k′) where
@@ -169,8 +176,8 @@ miss-two w k p =
     at-or-off (pointer w k (above 1 p % 256)) 0
     (λ e. rw (miss-hole 1 k p w e, data-hole 1 k p w e, is-yes (pointer w k (above 1 p % 256)) 0 e) (omega (arith, is-self 0)))
     (λ d.
-      rw (miss-full 1 k p w d, data-at 1 k p (pointer w k (above 1 p % 256)) w refl d)
-      (omega (arith, miss-one w (pointer w k (above 1 p % 256)) p)))
+    rw (miss-full 1 k p w d, data-at 1 k p (pointer w k (above 1 p % 256)) w refl d)
+    (omega (arith, miss-one w (pointer w k (above 1 p % 256)) p)))
 
 -- one file block in hand, and the rest
 module _ (w w′ : Bytes) (g k e p c : ℕ) (path : (r : ℕ) → r < e → 0 ≡ above g r) (pe : p + suc c ≤ e)
@@ -179,10 +186,11 @@ module _ (w w′ : Bytes) (g k e p c : ℕ) (path : (r : ℕ) → r < e → 0 �
   unfolding gaps run sum
   gaps-step =
       rw (add-one p)
-      (omega
-      (arith,
+      (omega (
+        arith,
         sum-le (λ r. is (dataBlock w′ g k r) 0) (λ r. is (dataBlock w g k r) 0) (run (suc p) c)
-        (λ r m. let i = run-in c (suc p) r m in let l : r < e = omega (arith, i .1) in gap-less w g k w′ g k grows r (path r l) (path r l))))
+            (λ r m. let i = run-in c (suc p) r m in let l : r < e = omega (arith, i .1) in gap-less w g k w′ g k grows r (path r l) (path r l)),
+      ))
 
 holes-step : (w w′ : Bytes) (k p c : ℕ) → p + suc c ≤ 65536 → ((x : Gauge) → weigh x w 2 0 k ≤ weigh x w′ 2 0 k)
     → (pointer w′ k (p / 256) ≡ 0 → ⊥) → holes w′ k (p + 1) c + is (pointer w k (p / 256)) 0 ≤ holes w k p (suc c)
@@ -191,19 +199,19 @@ holes-step w w′ k p c pe grows d =
     let m : ℕ = (p + c) / 256 - p / 256 in
     let e : (p + suc c - 1) / 256 + 1 - p / 256 ≡ suc m = omega arith in
     let less : sum (λ i. is (pointer w′ k i) 0) (run (suc (p / 256)) m) ≤ sum (λ i. is (pointer w k i) 0) (run (suc (p / 256)) m) =
-      sum-le _ _ (run (suc (p / 256)) m) (λ i o.
-        let r = run-in m (suc (p / 256)) i o in
-        let il : i < 256 = omega (arith, r .1) in
-        omega (arith, grows (mark i), mark-is i k w il, mark-is i k w′ il)) in
+    sum-le _ _ (run (suc (p / 256)) m) (λ i o.
+    let r = run-in m (suc (p / 256)) i o in
+    let il : i < 256 = omega (arith, r .1) in
+    omega (arith, grows (mark i), mark-is i k w il, mark-is i k w′ il)) in
     rw e
     (at-or-off ((p + 1) / 256) (p / 256)
     (λ f.
-      let e′ : (p + 1 + c - 1) / 256 + 1 - (p + 1) / 256 ≡ suc m = omega arith in
-      rw (e′, f) (unfold run sum in omega (arith, is-no (pointer w′ k (p / 256)) 0 d)))
+    let e′ : (p + 1 + c - 1) / 256 + 1 - (p + 1) / 256 ≡ suc m = omega arith in
+    rw (e′, f) (unfold run sum in omega (arith, is-no (pointer w′ k (p / 256)) 0 d)))
     (λ f.
-      let f′ : (p + 1) / 256 ≡ suc (p / 256) = omega arith in
-      let e′ : (p + 1 + c - 1) / 256 + 1 - (p + 1) / 256 ≡ m = omega arith in
-      rw (e′, f′) (unfold run sum in omega arith)))
+    let f′ : (p + 1) / 256 ≡ suc (p / 256) = omega arith in
+    let e′ : (p + 1 + c - 1) / 256 + 1 - (p + 1) / 256 ≡ m = omega arith in
+    rw (e′, f′) (unfold run sum in omega arith)))
 
 pub lacks-step : (w w′ : Bytes) (g k e p c : ℕ) → g ≤ 2 → e ≤ 65536 → ((r : ℕ) → r < e → 0 ≡ above g r) → p + suc c ≤ e
     → ((x : Gauge) → weigh x w g 0 k ≤ weigh x w′ g 0 k) → (dataBlock w′ g k p ≡ 0 → ⊥)
@@ -217,11 +225,12 @@ lacks-step w w′ (suc zero) k e p c gl el path pe grows d =
 lacks-step w w′ (suc (suc zero)) k e p c gl el path pe grows d =
     let i : above 1 p % 256 ≡ p / 256 = unfold above in omega arith in
     rw (lacks-tree w′ k (p + 1) c, lacks-tree w k p (suc c))
-    (omega
-    (arith,
+    (omega (
+      arith,
       gaps-step w w′ 2 k e p c path pe grows,
       rw i at (miss-two w k p),
-      holes-step w w′ k p c (omega arith) grows (λ z. d (data-hole 1 k p w′ (rw i z)))))
+      holes-step w w′ k p c (omega arith) grows (λ z. d (data-hole 1 k p w′ (rw i z))),
+    ))
 lacks-step w w′ (suc (suc (suc g))) k e p c gl el path pe grows d = absurd (omega arith)
 
 -- The need, counted before the new keys are taken.
@@ -245,9 +254,9 @@ index-need : (v : Bytes) (h k : ℕ) (w : Bytes) (l : ℕ) → h ≤ 2 → (k �
 index-need v zero k w l hl some grows i il =
     at-or-off i 0
     (λ e.
-      let same = grown-data v 0 0 k w 2 0 l 0 grows (unfold above in refl) (unfold above in refl) (λ z. some (unfold dataBlock in z)) in
-      rw e
-      (rw (is-no (pointer w l 0) 0 (λ z. some (unfold dataBlock in sym same ∙ data-hole 1 l 0 w (unfold above in z)))) (omega arith)))
+    let same = grown-data v 0 0 k w 2 0 l 0 grows (unfold above in refl) (unfold above in refl) (λ z. some (unfold dataBlock in z)) in
+    rw e
+    (rw (is-no (pointer w l 0) 0 (λ z. some (unfold dataBlock in sym same ∙ data-hole 1 l 0 w (unfold above in z)))) (omega arith)))
     (λ d. unfold lacksIndex in rw (is-no i 0 d) (is-most (pointer w l i) 0))
 index-need v (suc zero) k w l hl some grows i il =
     at-or-off i 0
@@ -262,17 +271,17 @@ pub need-lacks : (v : Bytes) (h k : ℕ) (w : Bytes) (g l e p c : ℕ) → h ≤
 unfolding need
 need-lacks v h k w g l e p c hl some grows el path pe cl =
     let blocks : gaps w g l p c ≤ sum (lacksBlock v h k) (run p c) =
-      unfold gaps in
-      sum-le _ _ (run p c) (λ r m. let i = run-in c p r m in gap-need v h k w g l hl some grows r (path r (omega (arith, i .1)))) in
+    unfold gaps in
+    sum-le _ _ (run p c) (λ r m. let i = run-in c p r m in gap-need v h k w g l hl some grows r (path r (omega (arith, i .1)))) in
     at-or-off g 2
     (λ t. rw t
-      (let more : (x : Gauge) → weigh x v h 0 k ≤ weigh x w 2 0 l = rw t at grows in
-      let indexes : holes w l p c ≤ sum (lacksIndex v h k) (run (p / 256) ((p + c - 1) / 256 + 1 - p / 256)) =
-        unfold holes in
-        sum-le _ _ (run (p / 256) ((p + c - 1) / 256 + 1 - p / 256)) (λ i m.
-          let r = run-in ((p + c - 1) / 256 + 1 - p / 256) (p / 256) i m in
-          index-need v h k w l hl some more i (omega (arith, r .1))) in
-      rw (lacks-tree w l p c) (omega (arith, indexes, rw t at blocks))))
+    (let more : (x : Gauge) → weigh x v h 0 k ≤ weigh x w 2 0 l = rw t at grows in
+    let indexes : holes w l p c ≤ sum (lacksIndex v h k) (run (p / 256) ((p + c - 1) / 256 + 1 - p / 256)) =
+    unfold holes in
+    sum-le _ _ (run (p / 256) ((p + c - 1) / 256 + 1 - p / 256)) (λ i m.
+    let r = run-in ((p + c - 1) / 256 + 1 - p / 256) (p / 256) i m in
+    index-need v h k w l hl some more i (omega (arith, r .1))) in
+    rw (lacks-tree w l p c) (omega (arith, indexes, rw t at blocks))))
     (λ t. rw (lacks-low w g l p c t, ne-eqb g 2 t, need) (omega (arith, blocks)))
 
 -- what one file block misses is among it

@@ -1,14 +1,12 @@
 -- What the new entry of a file says, and where it stands.
 use Prim.Native.Nat.{ℕ, zero, suc, _+_, _-_, _*_, _≤_, _<_, _/_, _%_}
-use mathlib.Core.Path.{_≡_, refl, sym, ap, _∙_}
-use mathlib.Core.Bool.{Bool, true, false}
-use lib.Dec.{leb, eqb}
+use mathlib.Core.Path.{_≡_, refl, sym, _∙_}
 use lib.ListN.{length}
 use native.Mathlib.Omega.{arith}
-use native.Mathlib.Nat.{add-zero, add-assoc}
-use Rattle.model.specs.Bytes.{Bytes, Octets, put, paste, digit, word, long, putWord, putLong}
+use native.Mathlib.Nat.{add-assoc}
+use Rattle.model.specs.Bytes.{Bytes, Octets}
 use Rattle.model.specs.Names.{nameSize}
-use Rattle.model.specs.Directory.{Sort, file, sortOf, sort, at, volume, volumeBlock, key, used, eof, access, directoryKey, ftype}
+use Rattle.model.specs.Directory.{file, sortOf, sort, at, volume, volumeBlock, key, used, eof, access, directoryKey, ftype}
 use Rattle.model.specs.File.{nodes}
 use Rattle.model.specs.Calls.{stampBytes, backedUp, allows, readBit}
 use Rattle.model.specs.Write.{noted}
@@ -111,7 +109,7 @@ module _ (w : Bytes) (s h k e : ℕ) (t : Stamp) where
     pub noted-up : directoryKey new s ≡ directoryKey w s
     noted-up =
         let one : (o : ℕ) → 0x25 ≤ o → o < 39 → new (at s + o) ≡ w (at s + o) =
-          λ o p q. noted-off (at s + o) (λ z. omega arith) (λ a b. omega arith) (λ z. omega arith) (λ a b. omega arith) in
+        λ o p q. noted-off (at s + o) (λ z. omega arith) (λ a b. omega arith) (λ z. omega arith) (λ a b. omega arith) in
         field-at new s 0x25 volumeBlock proper
         ∙ word-same new w _ _ (one 0x25 (omega arith) (omega arith)) (rw (add-assoc (at s) 0x25 1) (one 0x26 (omega arith) (omega arith)))
         ∙ sym (field-at w s 0x25 volumeBlock proper)

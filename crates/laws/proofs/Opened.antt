@@ -1,16 +1,16 @@
 -- A call on a data file that is not refused so far has a file at hand.
-use Prim.Native.Nat.{ℕ, zero, suc, _+_, _<_, _≤_}
+use Prim.Native.Nat.{ℕ}
 use mathlib.Core.Path.{_≡_, refl, sym, ap, _∙_}
-use mathlib.Core.List.{List, [], _∷_}
-use mathlib.Core.Bool.{Bool, true, false, not, false≢true}
+use mathlib.Core.List.{List, _∷_}
+use mathlib.Core.Bool.{true, false, false≢true}
 use native.Mathlib.Omega.{arith}
 use Rattle.model.specs.Bytes.{Bytes, Octets}
-use Rattle.model.specs.Directory.{Sort, inactive, directory, improper, file, sort, isActive, isDirectory, volume}
+use Rattle.model.specs.Directory.{Sort, inactive, directory, improper, file, sort, isActive, isDirectory}
 use Rattle.model.specs.Names.{properPath}
 use Rattle.model.specs.Sound.{wholeBlocks}
-use Rattle.model.specs.Refusals.{Row, row, first}
+use Rattle.model.specs.Refusals.{Row, first}
 use Rattle.model.specs.Calls.{total, notProdos, notSound, badPath, notVolume, notDirectory, notFound, notData, isNoVolume, isNoDirectory, isMissing, home, spot, target}
-use Rattle.laws.proofs.Sound.{and-left, Sound, sound-facts}
+use Rattle.laws.proofs.Sound.{and-left, sound-facts}
 use Rattle.laws.proofs.Facts.{seen-proper, volume-directory}
 use Rattle.laws.proofs.Lookup.{first-zero, not-false, entry-led, target-led}
 use Rattle.laws.proofs.Entry.{Ready}

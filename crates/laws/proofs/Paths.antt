@@ -1,12 +1,12 @@
 -- Where names and places of entries stay, every path leads where it led.
-use Prim.Native.Nat.{ℕ, zero, suc, _+_, _-_, _*_, _≤_, _<_}
-use mathlib.Core.Path.{_≡_, refl, sym, ap, _∙_}
+use Prim.Native.Nat.{ℕ, _≤_}
+use mathlib.Core.Path.{_≡_, refl, ap}
 use mathlib.Core.List.{List, [], _∷_}
 use mathlib.Core.Option.{Option, none, some}
 use mathlib.Core.Bool.{Bool, true, false, false≢true}
 use native.Mathlib.Omega.{arith}
 use Rattle.model.specs.Bytes.{Bytes, sum, count, _and_}
-use Rattle.model.specs.Names.{Part, parts, sameName}
+use Rattle.model.specs.Names.{Part, parts}
 use Rattle.model.specs.Directory.{Sort, inactive, directory, improper, file, sort, isActive, isDirectory, at, volume, kids, seek, Target, noVolume, noDirectory, last, along, lookup}
 use Rattle.model.specs.Calls.{target}
 use Rattle.model.proofs.SumLaws.{is-self}

@@ -1,25 +1,24 @@
 -- Data laid block by block, and the bytes at EOF and after zeroed: the tree, and the bytes that are read.
 use Prim.Native.Nat.{ℕ, zero, suc, _+_, _-_, _*_, _≤_, _<_, _/_, _%_, min, max}
-use mathlib.Core.Path.{_≡_, refl, sym, ap, _∙_}
+use mathlib.Core.Path.{_≡_, refl, sym, _∙_}
 use mathlib.Core.Bool.{Bool, true, false}
-use lib.Dec.{leb, ltb, eqb}
+use lib.Dec.{ltb, eqb}
 use native.Mathlib.Omega.{arith}
-use native.Mathlib.Numerals.{add-one}
 use borrow.Author.Tests.{eqb-true, eqb-false, ltb-true, ltb-false}
-use Rattle.model.specs.Bytes.{Bytes, Octets, paste, from, clear, is}
+use Rattle.model.specs.Bytes.{Bytes, Octets, clear}
 use Rattle.model.specs.Map.{room}
 use Rattle.model.specs.Directory.{mapPlace}
 use Rattle.model.specs.File.{span, above, dataBlock, fileByte}
 use Rattle.model.specs.Grow.{zeroedFrom, backed}
 use Rattle.model.specs.Write.{laid, poured}
-use Rattle.model.proofs.ByteLaws.{at-or-off, in-or-out, paste-in, paste-out, octets-paste, clear-in, clear-out, octets-clear}
+use Rattle.model.proofs.ByteLaws.{at-or-off, paste-in, paste-out, octets-paste, clear-in, clear-out, octets-clear}
 use Rattle.laws.proofs.Frame.{Alike}
 use Rattle.laws.proofs.Weigh.{Gauge, weigh, each, tardy, size}
-use Rattle.laws.proofs.Move.{by-zero, by-lt, Fit, Move, move-none, move-fit, move-then}
-use Rattle.laws.proofs.Take.{Work, backed-work, Still, still-none, data-still}
+use Rattle.laws.proofs.Move.{Fit, Move, move-none, move-fit, move-then}
+use Rattle.laws.proofs.Take.{backed-work, Still, still-none, data-still}
 use Rattle.laws.proofs.Room.{move-room}
-use Rattle.laws.proofs.Data.{still-data, data-apart, late-hole, spot-is, file-hole, file-full, file-same, work-byte}
-use Rattle.laws.proofs.Need.{miss, Complete, backed-complete, lacks, lacks-step, miss-lacks}
+use Rattle.laws.proofs.Data.{still-data, data-apart, file-hole, file-full, file-same, work-byte}
+use Rattle.laws.proofs.Need.{Complete, backed-complete, lacks, lacks-step, miss-lacks}
 
 -- the place of byte i in its block, where s is the first byte laid and e the end
 record InBlock (b p pos s e i : ℕ) : Type 0 where
@@ -55,7 +54,7 @@ module _ {n : ℕ} {w : Bytes} {h q k : ℕ} (F : Fit n w h q k) (p pos size : �
     laid-in e l m =
         let same : dataBlock new h k (i / 512) ≡ dataBlock w h k p = rw e (still-data laid-still p t) in
         let x =
-          in-block (dataBlock w h k p) p pos (max pos (p * 512)) (min (pos + size) (p * 512 + 512)) i e (omega arith) (omega arith) (omega arith) (omega arith) in
+        in-block (dataBlock w h k p) p pos (max pos (p * 512)) (min (pos + size) (p * 512 + 512)) i e (omega arith) (omega arith) (omega arith) (omega arith) in
         file-full new h k i (λ z. there (sym same ∙ z))
         ∙ rw (same, x .back) (unfold laid in paste-in w _ _ _ (dataBlock w h k p * 512 + i % 512) (x .low) (x .high))
 
@@ -64,11 +63,11 @@ module _ {n : ℕ} {w : Bytes} {h q k : ℕ} (F : Fit n w h q k) (p pos size : �
         let same = still-data laid-still (i / 512) s in
         at-or-off (i / 512) p
         (λ e.
-          let d : dataBlock w h k (i / 512) ≡ 0 → ⊥ = rw e there in
-          let x : i % 512 ≡ i - p * 512 = omega arith in
-          file-full new h k i (λ z. d (sym same ∙ z))
-          ∙ rw (same, e, x) (laid-out i (λ _ _. o e) (omega arith) (omega arith))
-          ∙ sym (rw (e, x) at (file-full w h k i d)))
+        let d : dataBlock w h k (i / 512) ≡ 0 → ⊥ = rw e there in
+        let x : i % 512 ≡ i - p * 512 = omega arith in
+        file-full new h k i (λ z. d (sym same ∙ z))
+        ∙ rw (same, e, x) (laid-out i (λ _ _. o e) (omega arith) (omega arith))
+        ∙ sym (rw (e, x) at (file-full w h k i d)))
         (λ e. file-same w h k new h k i same (λ d. laid-alike (dataBlock w h k (i / 512)) (λ z. data-apart F p (i / 512) t s (λ y. e (sym y)) there z)))
 
 -- The data of c file blocks from p on.
@@ -99,18 +98,18 @@ module _ (n e h k pos size : ℕ) (buffer : Bytes) (octets : Octets buffer) (hl 
       let less = lacks-step w y h k e p c hl el path pe more there in
       let T = move-then (A .move) (B .move) in
       let D =
-        pour (p + 1) c y (omega arith) H
-        (omega (arith, less, m, C .more, B .weights (each (λ _. 1)), move-room F T)) in
+      pour (p + 1) c y (omega arith) H
+      (omega (arith, less, m, C .more, B .weights (each (λ _. 1)), move-room F T)) in
       record {
         move = move-then T (D .move);
         timely = λ t. D .timely (B .weights (tardy e) ∙ A .timely t);
         inside = λ i a b u v. at-or-off (i / 512) p
-          (λ t. D .outside i (omega arith) (λ f g _ _. omega arith) ∙ laid-in G p pos size buffer octets (C .there) i (path p pl) t u v)
-          (λ t. D .inside i (omega arith) (omega arith) u v);
+            (λ t. D .outside i (omega arith) (λ f g _ _. omega arith) ∙ laid-in G p pos size buffer octets (C .there) i (path p pl) t u v)
+            (λ t. D .inside i (omega arith) (omega arith) u v);
         outside = λ i l o.
-          D .outside i l (λ a b. o (omega arith) (omega arith))
-          ∙ laid-off G p pos size buffer octets (C .there) i (path p pl) (path (i / 512) l) (λ t. o (omega arith) (omega arith))
-          ∙ work-byte A G i (path (i / 512) l) (path (i / 512) l);
+            D .outside i l (λ a b. o (omega arith) (omega arith))
+            ∙ laid-off G p pos size buffer octets (C .there) i (path p pl) (path (i / 512) l) (λ t. o (omega arith) (omega arith))
+            ∙ work-byte A G i (path (i / 512) l) (path (i / 512) l);
       }
 
 -- The bytes at EOF and after.
@@ -154,16 +153,16 @@ zeroed {n} {w} {h} {q} {k} F e path = go (ltb e (span e * 512)) refl (eqb z 0) r
         record {
           still = A;
           below = λ i m o.
-            let same = still-data A (i / 512) o in
-            at-or-off (i / 512) (e / 512)
-            (λ f.
+              let same = still-data A (i / 512) o in
+              at-or-off (i / 512) (e / 512)
+              (λ f.
               let d : dataBlock w h k (i / 512) ≡ 0 → ⊥ = rw f there in
               file-full x h k i (λ y. d (sym same ∙ y))
               ∙ rw (same, f) (clear-out w _ _ _ (λ u y. omega arith))
               ∙ sym (rw f at (file-full w h k i d)))
-            (λ f. file-same w h k x h k i same (λ d. alike (dataBlock w h k (i / 512)) (λ y. data-apart F (e / 512) (i / 512) num o (λ g. f (sym g)) there y)));
+              (λ f. file-same w h k x h k i same (λ d. alike (dataBlock w h k (i / 512)) (λ y. data-apart F (e / 512) (i / 512) num o (λ g. f (sym g)) there y)));
           past = λ i a b.
-            let f = here i a b in
-            let same : dataBlock x h k (i / 512) ≡ z = rw f (still-data A (e / 512) num) in
-            file-full x h k i (λ y. there (sym same ∙ y)) ∙ rw same (clear-in w _ _ _ (omega arith) (omega arith));
+              let f = here i a b in
+              let same : dataBlock x h k (i / 512) ≡ z = rw f (still-data A (e / 512) num) in
+              file-full x h k i (λ y. there (sym same ∙ y)) ∙ rw same (clear-in w _ _ _ (omega arith) (omega arith));
         }

@@ -1,6 +1,6 @@
 -- What is late is cut off: exactly the nodes before the end stay. The bytes before the new end stay as keys give way and late parts go.
-use Prim.Native.Nat.{ℕ, zero, suc, _+_, _-_, _*_, _≤_, _<_, _/_, _%_}
-use mathlib.Core.Path.{_≡_, refl, sym, ap, _∙_}
+use Prim.Native.Nat.{ℕ, zero, suc, _+_, _*_, _≤_, _<_, _/_, _%_}
+use mathlib.Core.Path.{_≡_, refl, sym, _∙_}
 use mathlib.Core.Bool.{Bool, true, false}
 use lib.Dec.{leb, eqb}
 use native.Mathlib.Omega.{arith}
@@ -13,12 +13,12 @@ use Rattle.model.specs.SetEof.{lowered, heir, sunk, sunkKey, eachPointer, trimm
 use Rattle.model.proofs.ByteLaws.{at-or-off}
 use Rattle.model.proofs.BitLaws.{is-yes, same-free, same-rest}
 use Rattle.laws.proofs.Frame.{Alike, pointer-in}
-use Rattle.laws.proofs.Weigh.{upto, upto-eq, upto-zero, Gauge, arm, weigh, each, tardy, has, part, arm-hole, arm-full, nodes-count, part-le, has-key, part-has, weigh-le, weigh-one, part-same, weigh-same, part-zero, weigh-zero, Blank, pointer-blank, leaves, indexes, has-split, key-index}
+use Rattle.laws.proofs.Weigh.{upto-eq, upto-zero, Gauge, arm, weigh, each, tardy, has, part, arm-hole, arm-full, nodes-count, part-le, has-key, part-has, weigh-le, weigh-one, part-same, weigh-same, part-zero, weigh-zero, Blank, pointer-blank, leaves, indexes, has-split, key-index}
 use Rattle.laws.proofs.Move.{by-zero, Off, map-alike, pointer-off, pointer-at, pointer-other, octets-pointer, Fit, Move, move-none, move-fit, fit-off, fit-key, move-then, fit-below, lift, lift-kept, lift-part, lift-full, lift-weigh}
 use Rattle.laws.proofs.Take.{first-le}
 use Rattle.laws.proofs.Data.{when, spot, data-leaf, data-has, same-data, file-hole, file-full, file-same}
 use Rattle.laws.proofs.Need.{data-hole, data-at}
-use Rattle.laws.proofs.Give.{Freed, freed-all, lowered-move, lowered-hole, lowered-full, heir-hole, heir-full, cleared-blank, heir-in, sunk-move}
+use Rattle.laws.proofs.Give.{Freed, freed-all, lowered-move, lowered-hole, lowered-full, heir-hole, heir-full, cleared-blank, heir-in}
 
 -- a gauge at the nodes before the end e
 abbrev pub early : ℕ → Gauge → Gauge
@@ -47,9 +47,9 @@ module _ {n : ℕ} {w : Bytes} {h q k i : ℕ} (F : Fit n w (suc h) q k) (il : i
   cut-part g j m d =
       part-same g w cut h q k j (pointer-other bare k i 0 j il m d ∙ pointer-in w bare k j (gone .kept k cut-key) m)
       (λ z. weigh-same g w cut h (q * 256 + j) (pointer w k j) (λ b t.
-        let more = part-has w h q k j b m z in
-        let some : 1 ≤ has w (suc h) q k b = omega arith in
-        cut-kept b (fit-off F b some) (λ e. omega (arith, F .apart b (F .range b some), is-yes b k e))))
+      let more = part-has w h q k j b m z in
+      let some : 1 ≤ has w (suc h) q k b = omega arith in
+      cut-kept b (fit-off F b some) (λ e. omega (arith, F .apart b (F .range b some), is-yes b k e))))
 
   cut-none : (g : Gauge) → part g cut h q k i ≡ 0
   cut-none g = arm-hole _ cut q k i (pointer-at bare k i 0 (omega arith))
@@ -57,15 +57,15 @@ module _ {n : ℕ} {w : Bytes} {h q k i : ℕ} (F : Fit n w (suc h) q k) (il : i
   cut-move : Move n w (suc h) q k cut (suc h) q k
   cut-move =
       let less : (b : ℕ) → has cut (suc h) q k b + has w h (q * 256 + i) (pointer w k i) b ≡ has w (suc h) q k b =
-        λ b. omega (arith, cut-none (each (is b)), arm-full (λ r p. has w h r p b) w q k i full, weigh-one (each (is b)) w cut h q k i il (cut-part (each (is b)))) in
+      λ b. omega (arith, cut-none (each (is b)), arm-full (λ r p. has w h r p b) w q k i full, weigh-one (each (is b)) w cut h q k i il (cut-part (each (is b)))) in
       let same = map-alike n bare cut (λ b p r. pointer-off bare k i 0 b il (λ e. cut-key (rw (← e) p) (rw (← e) r))) in
       record {
         bytes = octets-pointer bare k i 0 (gone .bytes);
         rest = same-rest mapPlace n bare cut same (gone .rest);
         range = λ b m. F .range b (omega (arith, less b));
         level = λ b l.
-          omega
-          (arith, less b, gone .freed b, nodes-count w h (q * 256 + i) (pointer w k i) b, same-free mapPlace n bare cut same b l);
+            omega
+            (arith, less b, gone .freed b, nodes-count w h (q * 256 + i) (pointer w k i) b, same-free mapPlace n bare cut same b l);
         same = λ b l z m. cut-kept b m (λ e. omega (arith, has-key w (suc h) q k, rw e at z));
       }
 
@@ -75,10 +75,11 @@ unfolding weigh firstBelow
 late-all g e zero r p w l = rw (le-leb e r l) refl
 late-all g e (suc h) r p w l =
     rw (le-leb e (firstBelow h (r * 256)) l)
-    (omega
-    (arith,
+    (omega (
+      arith,
       upto-zero 256 _ (λ i m. part-zero (early e g) w h r p i
-      (λ z. late-all g e h (r * 256 + i) (pointer w p i) w (omega (arith, first-le h (r * 256) (r * 256 + i) (omega arith)))))))
+          (λ z. late-all g e h (r * 256 + i) (pointer w p i) w (omega (arith, first-le h (r * 256) (r * 256 + i) (omega arith))))),
+    ))
 
 -- A tree that shrinks in place: surviving data blocks keep their bytes.
 pub record Less (n : ℕ) (w : Bytes) (h q k : ℕ) (w′ : Bytes) : Type 0 where
@@ -107,9 +108,9 @@ module _ {n : ℕ} {w : Bytes} {h q k i : ℕ} (F : Fit n w (suc h) q k) (il : i
         move = T;
         shrinks = λ g. omega (arith, cut-none F il full g, weigh-one g w w′ h q k i il (cut-part F il full g));
         data-kept = λ b m.
-          let all = has-split w′ (suc h) q k b in
-          cut-kept F il full b (fit-off G b (omega arith))
-          (λ s. omega (arith, rw s at m, has-split w′ (suc h) q k k, key-index w′ h q k, G .apart k (fit-key G)));
+            let all = has-split w′ (suc h) q k b in
+            cut-kept F il full b (fit-off G b (omega arith))
+            (λ s. omega (arith, rw s at m, has-split w′ (suc h) q k k, key-index w′ h q k, G .apart k (fit-key G)));
       }
 
   less-lift : {w′ : Bytes} → Less n w h (q * 256 + i) (pointer w k i) w′ → Less n w (suc h) q k w′
@@ -121,15 +122,15 @@ module _ {n : ℕ} {w : Bytes} {h q k i : ℕ} (F : Fit n w (suc h) q k) (il : i
         move = T;
         shrinks = λ g. omega (arith, A .shrinks g, shift g);
         data-kept = λ b m.
-          let all = has-split w′ (suc h) q k b in
-          let bn = G .range b (omega arith) in
-          let sum = shift (each (is b)) in
-          let one = F .apart b bn in
-          let one′ = G .apart b bn in
-          by-zero (has w′ h (q * 256 + i) (pointer w k i) b)
-          (λ z. lift-kept F il full (A .move) b (omega arith) (omega (arith, part-has w h q k i b il full)))
-          (λ z. A .data-kept b (omega
-          (arith, has-split w′ h (q * 256 + i) (pointer w k i) b, part-le (indexes b) w′ h q k i il, lift-full F il full (A .move) (indexes b))));
+            let all = has-split w′ (suc h) q k b in
+            let bn = G .range b (omega arith) in
+            let sum = shift (each (is b)) in
+            let one = F .apart b bn in
+            let one′ = G .apart b bn in
+            by-zero (has w′ h (q * 256 + i) (pointer w k i) b)
+            (λ z. lift-kept F il full (A .move) b (omega arith) (omega (arith, part-has w h q k i b il full)))
+            (λ z. A .data-kept b (omega
+            (arith, has-split w′ h (q * 256 + i) (pointer w k i) b, part-le (indexes b) w′ h q k i il, lift-full F il full (A .move) (indexes b))));
       }
 
 -- A tree cut at the end e: exactly the early nodes stay.
@@ -171,8 +172,8 @@ trim-one n e h q k i P w rec F il = go (eqb (pointer w k i) 0) refl (leb e (firs
           less = less-cut F il full;
           rest = cut-part F il full;
           here = λ g.
-            cut-none F il full g
-            ∙ sym (part-zero (early e g) w h q k i (λ z. late-all g e h (q * 256 + i) (pointer w k i) w (leb-true e (firstBelow h (q * 256 + i)) t)));
+              cut-none F il full g
+              ∙ sym (part-zero (early e g) w h q k i (λ z. late-all g e h (q * 256 + i) (pointer w k i) w (leb-true e (firstBelow h (q * 256 + i)) t)));
         }
     go false s false t =
         let full = eqb-false (pointer w k i) 0 s in
@@ -200,7 +201,7 @@ trim-all n e h q k (suc c) P w rec F l =
     record {
       less = less-then (A .less) (B .less);
       done = λ g i m. at-or-off i c (λ s. rw s (B .here g ∙ A .todo (early e g) c (omega arith) (omega arith)))
-        (λ s. B .rest g i (omega arith) s ∙ A .done g i (omega arith));
+          (λ s. B .rest g i (omega arith) s ∙ A .done g i (omega arith));
       todo = λ g i m o. B .rest g i o (λ s. omega arith) ∙ A .todo g i (omega arith) o;
     }
 
@@ -247,10 +248,11 @@ pub prune-byte : {n e : ℕ} {w : Bytes} {h q k : ℕ} {w′ : Bytes} → Pruned
 prune-byte {e = e} {w} {h} {q} {k} {w′} A i s m =
     let r = i / 512 in
     let same : dataBlock w′ h k r ≡ dataBlock w h k r =
-      same-data w h q k w′ h q k r (λ b. A .stays (spot r b) ∙ omega
-      (arith,
-        weigh-le (early e (spot r b)) (spot r b) w h q k (λ l t x _. omega (arith, early-spot e r b l t x m)),
-        weigh-le (spot r b) (early e (spot r b)) w h q k (λ l t x _. omega (arith, early-spot e r b l t x m)))) s s in
+    same-data w h q k w′ h q k r (λ b. A .stays (spot r b) ∙ omega (
+      arith,
+      weigh-le (early e (spot r b)) (spot r b) w h q k (λ l t x _. omega (arith, early-spot e r b l t x m)),
+      weigh-le (spot r b) (early e (spot r b)) w h q k (λ l t x _. omega (arith, early-spot e r b l t x m)),
+    )) s s in
     file-same w h k w′ h k i same (λ d. rw same at (A .less .data-kept (dataBlock w′ h k r) (data-leaf w′ h q k r s (λ t. d (sym same ∙ t)))))
 
 blank-byte : (h k i : ℕ) (w : Bytes) → Blank w k → fileByte w h k i ≡ 0
@@ -265,14 +267,14 @@ lowered-byte : {n : ℕ} {w : Bytes} {h k : ℕ} → Fit n w (suc h) 0 k → (i 
 lowered-byte {w = w} {h} {k} F i s =
     at-or-off (pointer w k 0) 0
     (λ z. rw (lowered-hole F z, heir-hole F z)
-      (blank-byte h k i _ (cleared-blank F z) ∙ sym (file-hole w (suc h) k i (data-hole h k r w (rw digit z)))))
+    (blank-byte h k i _ (cleared-blank F z) ∙ sym (file-hole w (suc h) k i (data-hole h k r w (rw digit z)))))
     (λ full.
-      let c = pointer w k 0 in
-      let down : dataBlock w (suc h) k r ≡ dataBlock w h c r = data-at h k r c w (rw digit refl) full in
-      rw (lowered-full F full, heir-full F full)
-      (let same = same-data w h 0 c _ h 0 c r (λ b. weigh-same (spot r b) w _ h 0 c (heir-in F full)) s s in
-      file-same w (suc h) k _ h c i (same ∙ sym down)
-      (λ d. rw down (heir-in F full (dataBlock w h c r) (data-has w h 0 c r s (λ t. d (down ∙ t)))))))
+    let c = pointer w k 0 in
+    let down : dataBlock w (suc h) k r ≡ dataBlock w h c r = data-at h k r c w (rw digit refl) full in
+    rw (lowered-full F full, heir-full F full)
+    (let same = same-data w h 0 c _ h 0 c r (λ b. weigh-same (spot r b) w _ h 0 c (heir-in F full)) s s in
+    file-same w (suc h) k _ h c i (same ∙ sym down)
+    (λ d. rw down (heir-in F full (dataBlock w h c r) (data-has w h 0 c r s (λ t. d (down ∙ t)))))))
   where
     r : ℕ
     r = i / 512

@@ -1,31 +1,31 @@
 -- What read gives after a write and after set EOF, and that it gives the same as before for every other file.
-use Prim.Native.Nat.{ℕ, zero, suc, _+_, _-_, _*_, _≤_, _<_, _/_, _%_, min, max}
-use mathlib.Core.Path.{_≡_, refl, sym, ap, _∙_}
+use Prim.Native.Nat.{ℕ, _+_, _-_, _≤_, _<_, min, max}
+use mathlib.Core.Path.{_≡_, refl, ap, _∙_}
 use mathlib.Core.List.{List, [], _∷_}
 use mathlib.Core.Bool.{Bool, true, false, not}
-use lib.Dec.{leb, ltb, eqb}
+use lib.Dec.{leb, eqb}
 use native.Mathlib.Omega.{arith}
 use native.Mathlib.Nat.{zero-add}
-use borrow.Author.Tests.{le-ltb, ne-eqb, lt-leb}
-use Rattle.model.specs.Bytes.{Bytes, Octets, paste, from, _and_}
-use Rattle.model.specs.Directory.{sort, isDirectory, access, eof, Target}
+use borrow.Author.Tests.{le-ltb, ne-eqb}
+use Rattle.model.specs.Bytes.{Bytes, Octets, from, _and_}
+use Rattle.model.specs.Directory.{access, eof}
 use Rattle.model.specs.File.{content}
-use Rattle.model.specs.Sound.{wholeBlocks, prodos, sound}
+use Rattle.model.specs.Sound.{sound}
 use Rattle.model.specs.Refusals.{Row, row, first, settle}
 use Rattle.model.specs.Read.{Filled, filled, toRead, filledFrom, readNumber, read}
 use Rattle.model.specs.Write.{write}
 use Rattle.model.specs.SetEof.{setEof}
 use Rattle.model.specs.Calls.{total, spot, target, allows, readBit}
 use Rattle.model.specs.declared.Stamp.{Stamp}
-use Rattle.model.proofs.ByteLaws.{at-or-off, in-or-out, paste-at, paste-after}
+use Rattle.model.proofs.ByteLaws.{at-or-off, paste-at, paste-after}
 use Rattle.model.proofs.RefusalLaws.{first-passes, settle-accepted}
-use Rattle.laws.proofs.Sound.{Sound, sound-facts, facts-sound, and-both}
+use Rattle.laws.proofs.Sound.{facts-sound, and-both}
 use Rattle.laws.proofs.Move.{by-lt}
-use Rattle.laws.proofs.Entry.{Ready, Done}
+use Rattle.laws.proofs.Entry.{Done}
 use Rattle.laws.proofs.Paths.{target-same}
 use Rattle.laws.proofs.Opened.{Opened}
-use Rattle.laws.proofs.Written.{Wrote, write-opened, write-start, write-done}
-use Rattle.laws.proofs.Reset.{Reset, set-eof-opened, set-eof-done}
+use Rattle.laws.proofs.Written.{write-opened, write-start, write-done}
+use Rattle.laws.proofs.Reset.{set-eof-opened, set-eof-done}
 
 -- A read of m bytes at q that is not refused: what it gives of the file a.
 pub record Gives (f : Filled) (w : Bytes) (a q : ℕ) (b : Bytes) (m : ℕ) : Type 0 where
@@ -118,9 +118,11 @@ module _ (len : ℕ) (v p : Bytes) (k pos : ℕ) (buffer : Bytes) (size : ℕ) (
       let O = write-opened len v p k pos buffer size t octets lent z .1 in
       let W = write-done len v p k pos buffer size t octets lent z in
       let r = reads O (W .done) pos b size may (omega arith) (λ e. absurd (omega arith)) in
-      let x : (i : ℕ) → pos + i - pos ≡ i = λ i. omega arith in
-      (r, reads-count O (W .done) pos b size r ∙ omega arith,
-        λ i l. reads-bytes O (W .done) pos b size r i l (omega arith) ∙ W .inside (pos + i) (omega arith) (omega arith) ∙ ap buffer (x i))
+      let x : (i : ℕ) → pos + i - pos ≡ i = λ i. omega arith in (
+        r,
+        reads-count O (W .done) pos b size r ∙ omega arith,
+        λ i l. reads-bytes O (W .done) pos b size r i l (omega arith) ∙ W .inside (pos + i) (omega arith) (omega arith) ∙ ap buffer (x i),
+      )
 
   -- all other bytes are as before
   pub write-rest : (q : ℕ) (b : Bytes) (m : ℕ) → read len wrote-to p k q b m .number ≡ 0
@@ -148,7 +150,9 @@ module _ (len : ℕ) (v p : Bytes) (k e : ℕ) (t : Stamp) (octets : Octets v) (
   set-eof-reads may q b m l h =
       let O = set-eof-opened len v p k e t octets z .1 in
       let W = set-eof-done len v p k e t octets z in
-      let r = reads O (W .done) q b m may l h in
-      (r, reads-count O (W .done) q b m r,
+      let r = reads O (W .done) q b m may l h in (
+        r,
+        reads-count O (W .done) q b m r,
         λ i x y o. reads-bytes O (W .done) q b m r i x y ∙ W .below (q + i) o y,
-        λ i x y o. reads-bytes O (W .done) q b m r i x y ∙ W .past (q + i) o y)
+        λ i x y o. reads-bytes O (W .done) q b m r i x y ∙ W .past (q + i) o y,
+      )

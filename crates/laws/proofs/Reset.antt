@@ -1,29 +1,29 @@
 -- Set EOF keeps soundness and every other file as it was; the bytes below both ends are as before, those above the old end read as zero.
-use Prim.Native.Nat.{ℕ, zero, suc, _+_, _-_, _*_, _≤_, _<_, _/_, _%_}
-use mathlib.Core.Path.{_≡_, refl, sym, ap, _∙_}
-use mathlib.Core.List.{List, [], _∷_}
+use Prim.Native.Nat.{ℕ, _-_, _≤_, _<_, _/_}
+use mathlib.Core.Path.{_≡_, refl, _∙_}
+use mathlib.Core.List.{List}
 use mathlib.Core.Bool.{Bool, true, false}
-use lib.Dec.{leb, ltb, eqb}
+use lib.Dec.{ltb}
 use native.Mathlib.Omega.{arith}
 use borrow.Author.Tests.{ltb-true, ltb-false}
 use Rattle.model.specs.Bytes.{Bytes, Octets}
 use Rattle.model.specs.Map.{room}
-use Rattle.model.specs.Directory.{file, sort, mapPlace, mapBlock, key, eof}
+use Rattle.model.specs.Directory.{sort, mapPlace, mapBlock, key, eof}
 use Rattle.model.specs.File.{eofMost, span, heightFor, height, above, fileByte, content}
 use Rattle.model.specs.Write.{noted, grown, grownKey}
 use Rattle.model.specs.SetEof.{sunk, sunkKey, pruned, shrunkKey, shrunk, eofSet, setEofNumber, setEof}
-use Rattle.model.specs.Calls.{total, home, spot, target, nothing}
+use Rattle.model.specs.Calls.{total, spot, target, nothing}
 use Rattle.model.specs.Refusals.{Row, settle}
 use Rattle.model.specs.Sound.{sound}
 use Rattle.model.specs.declared.Stamp.{Stamp}
 use Rattle.model.proofs.RefusalLaws.{settle-accepted}
-use Rattle.laws.proofs.Sound.{Sound, facts-sound}
+use Rattle.laws.proofs.Sound.{facts-sound}
 use Rattle.laws.proofs.One.{Others}
 use Rattle.laws.proofs.Weigh.{weigh, tardy}
-use Rattle.laws.proofs.Move.{Fit, Move, move-fit, move-then}
+use Rattle.laws.proofs.Move.{Move, move-fit, move-then}
 use Rattle.laws.proofs.Room.{first-zero as zero-first}
-use Rattle.laws.proofs.Entry.{Ready, fit, was-tall, eof-most, Done, called-done, called-byte}
-use Rattle.laws.proofs.Grown.{height-le, height-path, span-some, span-in, Grown, grow}
+use Rattle.laws.proofs.Entry.{Ready, fit, was-tall, Done, called-done, called-byte}
+use Rattle.laws.proofs.Grown.{height-le, height-path, span-some, span-in, grow}
 use Rattle.laws.proofs.Give.{sunk-move}
 use Rattle.laws.proofs.Prune.{Pruned, prune, prune-move, prune-late, prune-byte, sunk-byte}
 use Rattle.laws.proofs.Lookup.{first-zero}
@@ -65,12 +65,12 @@ module _ {n : ℕ} {v : Bytes} {a d h : ℕ} (R : Ready n v a d h) (e : ℕ) (t 
       let k = sunkKey mapPlace v (heightFor e) (key v a) (h - heightFor e) in
       let A : Move n v h 0 (key v a) f (heightFor e) 0 k = sunk-move n (h - heightFor e) h (heightFor e) (key v a) v (omega arith) (fit R) in
       let B : Pruned n (span e) f (heightFor e) 0 k (pruned mapPlace (span e) f (heightFor e) 0 k) =
-        prune n (span e) (heightFor e) 0 k f (move-fit (fit R) A) (rw (zero-first (heightFor e)) (span-some e)) in
+      prune n (span e) (heightFor e) 0 k f (move-fit (fit R) A) (rw (zero-first (heightFor e)) (span-some e)) in
       rw (R .kind)
       (reset (move-then A (prune-move B)) (prune-late B)
       (λ i m o.
-        prune-byte B i (path i o) (span-in e i o)
-        ∙ sunk-byte n (h - heightFor e) h (heightFor e) (key v a) i v (omega arith) (fit R) (path i o))
+      prune-byte B i (path i o) (span-in e i o)
+      ∙ sunk-byte n (h - heightFor e) h (heightFor e) (key v a) i v (omega arith) (fit R) (path i o))
       (λ i m o. absurd (omega arith)))
 
   pub end-set : heightFor e - h ≤ room mapPlace v n → Reset n v a (eofSet mapPlace n v a e t) e

@@ -1,6 +1,6 @@
 -- Free blocks counted: a move keeps the sum of a tree's blocks and the free ones. New keys, with room for them.
-use Prim.Native.Nat.{ℕ, zero, suc, _+_, _-_, _*_, _≤_, _<_}
-use mathlib.Core.Path.{_≡_, refl, sym, ap, _∙_}
+use Prim.Native.Nat.{ℕ, zero, suc, _+_, _≤_, _<_}
+use mathlib.Core.Path.{_≡_, refl, sym, _∙_}
 use native.Mathlib.Omega.{arith}
 use borrow.Author.Tests.{lt-leb}
 use Rattle.model.specs.Bytes.{Bytes, is}
@@ -10,8 +10,8 @@ use Rattle.model.specs.File.{firstBelow}
 use Rattle.model.specs.Grow.{topped, raised, raisedKey}
 use Rattle.model.proofs.BitLaws.{is-no, lowest-free, room-lowest}
 use Rattle.model.proofs.SumLaws.{is-self}
-use Rattle.laws.proofs.Weigh.{upto, upto-eq, upto-add, upto-one, upto-zero, upto-ones, Gauge, weigh, each, tardy, has, size, weigh-add, weigh-le, weigh-zero, leaves, has-split}
-use Rattle.laws.proofs.Move.{Fit, Move, move-fit, move-none, fit-off, free-out}
+use Rattle.laws.proofs.Weigh.{upto, upto-eq, upto-add, upto-one, upto-zero, upto-ones, weigh, each, tardy, has, size, weigh-add, weigh-le, weigh-zero, leaves, has-split}
+use Rattle.laws.proofs.Move.{Fit, Move, move-fit, fit-off, free-out}
 use Rattle.laws.proofs.Take.{topped-move, topped-weigh, topped-kept, Work, work-none, work-then}
 
 upto-is : (n z : ℕ) → z < n → upto n (λ b. is b z) ≡ 1
@@ -25,11 +25,12 @@ swap-sums (suc n) v h q k = omega (arith, swap-sums n v h q k, weigh-add (each (
 
 tree-size : (n : ℕ) (v : Bytes) (h q k : ℕ) → ((b : ℕ) → 1 ≤ has v h q k b → b < n) → upto n (has v h q k) ≡ size v h q k
 tree-size n v h q k f =
-    omega
-    (arith,
+    omega (
+      arith,
       swap-sums n v h q k,
       weigh-le (each (λ x. upto n (λ b. is b x))) (each (λ _. 1)) v h q k (λ _ _ b t. omega (arith, upto-is n b (f b t))),
-      weigh-le (each (λ _. 1)) (each (λ x. upto n (λ b. is b x))) v h q k (λ _ _ b t. omega (arith, upto-is n b (f b t))))
+      weigh-le (each (λ _. 1)) (each (λ x. upto n (λ b. is b x))) v h q k (λ _ _ b t. omega (arith, upto-is n b (f b t))),
+    )
 
 room-upto : (w : Bytes) (n : ℕ) → room mapPlace w n ≡ upto n (free mapPlace w)
 unfolding room upto
@@ -45,15 +46,16 @@ size-most {n} {w} {h} {q} {k} F =
 pub move-room : {n : ℕ} {w : Bytes} {h q k : ℕ} {w′ : Bytes} {h′ q′ k′ : ℕ} → Fit n w h q k → Move n w h q k w′ h′ q′ k′
     → size w′ h′ q′ k′ + room mapPlace w′ n ≡ size w h q k + room mapPlace w n
 move-room {n} {w} {h} {q} {k} {w′} {h′} {q′} {k′} F T =
-    omega
-    (arith,
+    omega (
+      arith,
       room-upto w n,
       room-upto w′ n,
       tree-size n w h q k (F .range),
       tree-size n w′ h′ q′ k′ (T .range),
       upto-add n (has w h q k) (free mapPlace w),
       upto-add n (has w′ h′ q′ k′) (free mapPlace w′),
-      upto-eq n (λ b. has w′ h′ q′ k′ b + free mapPlace w′ b) (λ b. has w h q k b + free mapPlace w b) (T .level))
+      upto-eq n (λ b. has w′ h′ q′ k′ b + free mapPlace w′ b) (λ b. has w h q k b + free mapPlace w b) (T .level),
+    )
 
 pub first-zero : (l : ℕ) → firstBelow l 0 ≡ 0
 unfolding firstBelow
@@ -69,8 +71,8 @@ topped-work {w = w} {h} {k} e some F z zn zf =
       timely = λ t. topped-weigh F z zn zf (tardy e) ∙ rw (t, first-zero (suc h), lt-leb e 0 some) refl;
       grows = λ g. omega (arith, topped-weigh F z zn zf g);
       data-kept = λ b m.
-        let in-tree : 1 ≤ has w h 0 k b = omega (arith, has-split w h 0 k b) in
-        topped-kept F z zn zf b (free-out F z zn zf b in-tree) (fit-off F b in-tree);
+          let in-tree : 1 ≤ has w h 0 k b = omega (arith, has-split w h 0 k b) in
+          topped-kept F z zn zf b (free-out F z zn zf b in-tree) (fit-off F b in-tree);
       fresh = λ b m y. absurd (omega (arith, topped-weigh F z zn zf (leaves b)));
     }
 

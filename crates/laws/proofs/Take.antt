@@ -1,10 +1,10 @@
 -- Blocks taken: a missing block below a pointer, a new key, and what is missing for a file block. Data laid in a data block.
-use Prim.Native.Nat.{ℕ, zero, suc, _+_, _-_, _*_, _≤_, _<_, _/_, _%_}
-use mathlib.Core.Path.{_≡_, refl, sym, ap, _∙_}
+use Prim.Native.Nat.{ℕ, zero, suc, _+_, _*_, _≤_, _<_, _/_, _%_}
+use mathlib.Core.Path.{_≡_, refl, sym, _∙_}
 use mathlib.Core.Bool.{Bool, true, false}
-use lib.Dec.{leb, ltb, eqb}
+use lib.Dec.{ltb, eqb}
 use native.Mathlib.Omega.{arith}
-use borrow.Author.Tests.{eqb-true, eqb-false, lt-leb, ltb-true, ltb-false}
+use borrow.Author.Tests.{eqb-true, eqb-false, lt-leb, ltb-true}
 use Rattle.model.specs.Bytes.{Bytes, Octets, is}
 use Rattle.model.specs.Map.{mapBlocks, free, lowest, taken, restClear}
 use Rattle.model.specs.Directory.{mapPlace}
@@ -12,10 +12,10 @@ use Rattle.model.specs.File.{pointer, putPointer, firstBelow, above, dataBlock}
 use Rattle.model.specs.Grow.{topped, backed}
 use Rattle.model.proofs.ByteLaws.{at-or-off}
 use Rattle.model.proofs.BitLaws.{is-yes, is-no, is-both, taken-octets, rest-taken, same-free, same-rest, lowest-free}
-use Rattle.model.proofs.SumLaws.{is-self, is-eq}
+use Rattle.model.proofs.SumLaws.{is-eq}
 use Rattle.laws.proofs.Frame.{Alike, pointer-in}
-use Rattle.laws.proofs.Weigh.{Gauge, weigh, each, tardy, has, size, part, arm-hole, arm-full, part-le, has-key, part-has, part-same, weigh-same, weigh-one, Blank, pointer-blank, weigh-blank, leaves, indexes, has-split, key-index}
-use Rattle.laws.proofs.Move.{by-zero, by-lt, Off, map-alike, pointer-off, pointer-at, pointer-other, octets-pointer, taken-alike, taken-blank, taken-level, Fit, Move, move-none, move-fit, fit-off, fit-some, fit-key, free-off, free-some, free-out, move-then, fit-below, lift, lift-kept, lift-weigh}
+use Rattle.laws.proofs.Weigh.{Gauge, weigh, each, tardy, has, part, arm-hole, arm-full, part-le, has-key, part-has, part-same, weigh-same, weigh-one, Blank, pointer-blank, weigh-blank, leaves, indexes, has-split, key-index}
+use Rattle.laws.proofs.Move.{by-zero, Off, map-alike, pointer-off, pointer-at, pointer-other, octets-pointer, taken-alike, taken-blank, taken-level, Fit, Move, move-none, move-fit, fit-off, fit-some, fit-key, free-off, free-some, free-out, move-then, fit-below, lift, lift-kept, lift-weigh}
 
 -- z is taken, and p stored as pointer i of the block c
 module _ {n : ℕ} {w : Bytes} {h q k : ℕ} (F : Fit n w h q k) (z : ℕ) (zn : z < n) (zf : free mapPlace w z ≡ 1) (c i p : ℕ) (il : i < 256) where
@@ -72,15 +72,16 @@ module _ {n : ℕ} {w : Bytes} {h q k : ℕ} (F : Fit n w (suc h) q k) (i z : �
 
   pub hung-weigh : (g : Gauge) → weigh g hung (suc h) q k ≡ weigh g w (suc h) q k + g h (q * 256 + i) z
   hung-weigh g =
-      omega
-      (arith,
+      omega (
+        arith,
         hung-new g,
         arm-hole (λ r p. weigh g w h r p) w q k i hole,
         weigh-one g w hung h q k i il (λ j l d.
-        part-same g w hung h q k j (hung-pointer j l d) (λ y. weigh-same g w hung h (q * 256 + j) (pointer w k j) (λ b t.
-          let more = part-has w h q k j b l y in
-          let some : 1 ≤ has w (suc h) q k b = omega arith in
-          hung-kept b (free-out F z zn zf b some) (fit-off F b some) (λ e. omega (arith, F .apart b (F .range b some), is-yes b k e))))))
+            part-same g w hung h q k j (hung-pointer j l d) (λ y. weigh-same g w hung h (q * 256 + j) (pointer w k j) (λ b t.
+            let more = part-has w h q k j b l y in
+            let some : 1 ≤ has w (suc h) q k b = omega arith in
+            hung-kept b (free-out F z zn zf b some) (fit-off F b some) (λ e. omega (arith, F .apart b (F .range b some), is-yes b k e))))),
+      )
 
   pub hung-move : Move n w (suc h) q k hung (suc h) q k
   hung-move =
@@ -117,14 +118,15 @@ module _ {n : ℕ} {w : Bytes} {h k : ℕ} (F : Fit n w h 0 k) (z : ℕ) (zn : z
   topped-weigh g =
       let blank = taken-blank n w z zn in
       let old : part g risen h 0 z 0 ≡ weigh g w h 0 k = arm-full _ risen 0 z 0 topped-full ∙ rw topped-at (topped-below g) in
-      omega
-      (arith,
+      omega (
+        arith,
         old,
         arm-hole (λ r p. weigh g (taken mapPlace w z) h r p) (taken mapPlace w z) 0 z 0 (pointer-blank (taken mapPlace w z) z 0 blank (omega arith)),
         weigh-blank g (taken mapPlace w z) (suc h) 0 z blank,
         weigh-one g (taken mapPlace w z) risen h 0 z 0 (omega arith) (λ j l d.
-        arm-hole _ risen 0 z j (topped-other j l d)
-        ∙ sym (arm-hole _ (taken mapPlace w z) 0 z j (pointer-blank (taken mapPlace w z) z j blank l))))
+            arm-hole _ risen 0 z j (topped-other j l d)
+            ∙ sym (arm-hole _ (taken mapPlace w z) 0 z j (pointer-blank (taken mapPlace w z) z j blank l))),
+      )
 
   pub topped-move : Move n w h 0 k risen (suc h) 0 z
   topped-move =
@@ -172,11 +174,11 @@ hung-work {w = w} {h} {q} {k} e F i z il hole zn zf l =
       timely = λ t. hung-weigh F i z il hole zn zf (tardy e) ∙ rw (t, lt-leb e (firstBelow h (q * 256 + i)) l) refl;
       grows = λ g. omega (arith, hung-weigh F i z il hole zn zf g);
       data-kept = λ b m.
-        let some : 1 ≤ has w (suc h) q k b = omega (arith, has-split w (suc h) q k b) in
-        hung-kept F i z il hole zn zf b (free-out F z zn zf b some) (fit-off F b some)
-        (λ s. omega (arith, rw s at m, key-index w h q k, has-split w (suc h) q k k, F .apart k (fit-key F)));
+          let some : 1 ≤ has w (suc h) q k b = omega (arith, has-split w (suc h) q k b) in
+          hung-kept F i z il hole zn zf b (free-out F z zn zf b some) (fit-off F b some)
+          (λ s. omega (arith, rw s at m, key-index w h q k, has-split w (suc h) q k k, F .apart k (fit-key F)));
       fresh = λ b m y.
-        rw (new-leaf b h (q * 256 + i) z (omega (arith, hung-weigh F i z il hole zn zf (leaves b)))) (hung-blank F i z il hole zn zf);
+          rw (new-leaf b h (q * 256 + i) z (omega (arith, hung-weigh F i z il hole zn zf (leaves b)))) (hung-blank F i z il hole zn zf);
     }
 
 -- below a pointer
@@ -186,21 +188,25 @@ work-lift {w = w} {h} {q} {k} {i} {e} F il full A =
     record {
       move = lift F il full (A .move);
       timely = λ t.
-        let sum = lift-weigh F il full (A .move) (tardy e) in
-        omega (arith, A .timely (omega (arith, part-le (tardy e) w h q k i il, arm-full (λ r p. weigh (tardy e) w h r p) w q k i full)));
+          let sum = lift-weigh F il full (A .move) (tardy e) in
+          omega (arith, A .timely (omega (arith, part-le (tardy e) w h q k i il, arm-full (λ r p. weigh (tardy e) w h r p) w q k i full)));
       grows = λ g. omega (arith, A .grows g, lift-weigh F il full (A .move) g);
       data-kept = λ b m.
-        let more = has-split w (suc h) q k b in
-        let some : 1 ≤ has w (suc h) q k b = omega arith in
-        by-zero (has w h (q * 256 + i) (pointer w k i) b) (λ z. lift-kept F il full (A .move) b some z)
-        (λ z. A .data-kept b (omega
-        (arith, has-split w h (q * 256 + i) (pointer w k i) b, F .apart b (F .range b some), part-le (indexes b) w h q k i il,
-          arm-full (λ r c. weigh (indexes b) w h r c) w q k i full)));
+          let more = has-split w (suc h) q k b in
+          let some : 1 ≤ has w (suc h) q k b = omega arith in
+          by-zero (has w h (q * 256 + i) (pointer w k i) b) (λ z. lift-kept F il full (A .move) b some z)
+          (λ z. A .data-kept b (omega (
+            arith,
+            has-split w h (q * 256 + i) (pointer w k i) b,
+            F .apart b (F .range b some),
+            part-le (indexes b) w h q k i il,
+            arm-full (λ r c. weigh (indexes b) w h r c) w q k i full,
+          )));
       fresh = λ b m z.
-        let sum = lift-weigh F il full (A .move) (leaves b) in
-        let below = part-le (leaves b) w h q k i il in
-        let here = arm-full (λ r p. weigh (leaves b) w h r p) w q k i full in
-        A .fresh b (omega arith) (omega arith);
+          let sum = lift-weigh F il full (A .move) (leaves b) in
+          let below = part-le (leaves b) w h q k i il in
+          let here = arm-full (λ r p. weigh (leaves b) w h r p) w q k i full in
+          A .fresh b (omega arith) (omega arith);
     }
 
 -- Numbers of nodes above a file block.
@@ -268,13 +274,13 @@ still-base {n} {w} {q} {k} w′ F s f =
     let same = map-alike n w w′ (λ b p r. f b (λ t. omega (arith, F .plan b p r, is-yes b k t))) in
     record {
       move =
-        record {
-          bytes = s;
-          rest = same-rest mapPlace n w w′ same (F .rest);
-          range = F .range;
-          level = λ b l. rw (same-free mapPlace n w w′ same b l) refl;
-          same = λ b l z m. f b (λ t. omega (arith, is-yes b k t));
-        };
+          record {
+            bytes = s;
+            rest = same-rest mapPlace n w w′ same (F .rest);
+            range = F .range;
+            level = λ b l. rw (same-free mapPlace n w w′ same b l) refl;
+            same = λ b l z m. f b (λ t. omega (arith, is-yes b k t));
+          };
       weights = λ g. refl;
     }
 

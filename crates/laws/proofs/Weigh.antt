@@ -1,17 +1,16 @@
 -- Sums over a file's tree of pointers: a gauge is a number for each height, file number and block. The nodes of a file are read as such sums.
-use Prim.Native.Nat.{ℕ, zero, suc, _+_, _-_, _*_, _≤_, _<_}
+use Prim.Native.Nat.{ℕ, zero, suc, _+_, _*_, _≤_, _<_}
 use mathlib.Core.Path.{_≡_, refl, sym, ap, _∙_}
-use mathlib.Core.List.{List, [], _∷_, map}
 use mathlib.Core.Bool.{Bool, true, false}
 use lib.Dec.{leb, eqb}
 use lib.ListN.{length}
 use native.Mathlib.Omega.{arith}
 use native.Mathlib.Nat.{add-zero, add-assoc}
 use borrow.Author.Tests.{eqb-true, eqb-false, eq-eqb, ne-eqb}
-use Rattle.model.specs.Bytes.{Bytes, sum, count, gather, run, is, one-if}
-use Rattle.model.specs.File.{Node, node, pointer, limb, nodes, blocksIn, firstBelow}
+use Rattle.model.specs.Bytes.{Bytes, sum, count, run, is, one-if}
+use Rattle.model.specs.File.{Node, pointer, limb, nodes, blocksIn, firstBelow}
 use Rattle.model.specs.Sound.{outside, late}
-use Rattle.model.proofs.SumLaws.{is-self, sum-eq, sum-gather, sum-map, sum-ones, run-in}
+use Rattle.model.proofs.SumLaws.{is-self, sum-eq, sum-gather, sum-map, sum-ones}
 use Rattle.laws.proofs.Frame.{Alike, holds, pointer-in}
 
 -- Sums over the numbers below c.
@@ -207,11 +206,12 @@ pub weigh-le : (f g : Gauge) (v : Bytes) (h q k : ℕ) → ((l r b : ℕ) → 1 
 unfolding weigh
 weigh-le f g v zero q k t = t 0 q k (has-key v 0 q k)
 weigh-le f g v (suc h) q k t =
-    omega
-    (arith,
+    omega (
+      arith,
       t (suc h) q k (has-key v (suc h) q k),
       upto-le 256 _ _ (λ i l. arm-le f g v h q k i
-      (λ z. weigh-le f g v h (q * 256 + i) (pointer v k i) (λ m r b s. t m r b (omega (arith, part-has v h q k i b l z))))))
+          (λ z. weigh-le f g v h (q * 256 + i) (pointer v k i) (λ m r b s. t m r b (omega (arith, part-has v h q k i b l z))))),
+    )
 
 -- what the reading of a tree depends on
 pub part-same : (g : Gauge) (v v′ : Bytes) (h q k i : ℕ) → pointer v′ k i ≡ pointer v k i
@@ -231,8 +231,8 @@ weigh-same g v v′ zero q k f = refl
 weigh-same g v v′ (suc h) q k f =
     ap (λ (x : ℕ). g (suc h) q k + x)
     (upto-eq 256 _ _ (λ i l.
-      part-same g v v′ h q k i (pointer-in v v′ k i (f k (has-key v (suc h) q k)) l)
-      (λ z. weigh-same g v v′ h (q * 256 + i) (pointer v k i) (λ b t. f b (omega (arith, part-has v h q k i b l z))))))
+    part-same g v v′ h q k i (pointer-in v v′ k i (f k (has-key v (suc h) q k)) l)
+    (λ z. weigh-same g v v′ h (q * 256 + i) (pointer v k i) (λ b t. f b (omega (arith, part-has v h q k i b l z))))))
 
 -- a gauge with no share in any block
 pub part-zero : (g : Gauge) (v : Bytes) (h q k i : ℕ)
@@ -269,11 +269,12 @@ pub weigh-add : (f g : Gauge) (v : Bytes) (h q k : ℕ) → weigh (λ l r b. f l
 unfolding weigh
 weigh-add f g v zero q k = refl
 weigh-add f g v (suc h) q k =
-    omega
-    (arith,
+    omega (
+      arith,
       upto-add 256 (arm (λ r p. weigh f v h r p) v q k) (arm (λ r p. weigh g v h r p) v q k),
       upto-eq 256 (arm (λ r p. weigh (λ l s b. f l s b + g l s b) v h r p) v q k) (λ i. part f v h q k i + part g v h q k i)
-      (λ i l. both i (eqb (pointer v k i) 0) refl (weigh-add f g v h (q * 256 + i) (pointer v k i))))
+          (λ i l. both i (eqb (pointer v k i) 0) refl (weigh-add f g v h (q * 256 + i) (pointer v k i))),
+    )
   where
     both : (i : ℕ) (b : Bool) → eqb (pointer v k i) 0 ≡ b
         → weigh (λ l s c. f l s c + g l s c) v h (q * 256 + i) (pointer v k i)
@@ -281,14 +282,21 @@ weigh-add f g v (suc h) q k =
         → part (λ l s c. f l s c + g l s c) v h q k i ≡ part f v h q k i + part g v h q k i
     both i true e r =
         let z = eqb-true (pointer v k i) 0 e in
-        omega
-        (arith, arm-hole (λ r p. weigh (λ l s c. f l s c + g l s c) v h r p) v q k i z, arm-hole (λ r p. weigh f v h r p) v q k i z,
-          arm-hole (λ r p. weigh g v h r p) v q k i z)
+        omega (
+          arith,
+          arm-hole (λ r p. weigh (λ l s c. f l s c + g l s c) v h r p) v q k i z,
+          arm-hole (λ r p. weigh f v h r p) v q k i z,
+          arm-hole (λ r p. weigh g v h r p) v q k i z,
+        )
     both i false e r =
         let z = eqb-false (pointer v k i) 0 e in
-        omega
-        (arith, r, arm-full (λ r p. weigh (λ l s c. f l s c + g l s c) v h r p) v q k i z, arm-full (λ r p. weigh f v h r p) v q k i z,
-          arm-full (λ r p. weigh g v h r p) v q k i z)
+        omega (
+          arith,
+          r,
+          arm-full (λ r p. weigh (λ l s c. f l s c + g l s c) v h r p) v q k i z,
+          arm-full (λ r p. weigh f v h r p) v q k i z,
+          arm-full (λ r p. weigh g v h r p) v q k i z,
+        )
 
 -- the data blocks of a tree, and its indexes
 abbrev pub leaves : ℕ → Gauge
@@ -301,11 +309,12 @@ indexes b (suc l) q x = is b x
 
 pub has-split : (v : Bytes) (h q k b : ℕ) → has v h q k b ≡ weigh (leaves b) v h q k + weigh (indexes b) v h q k
 has-split v h q k b =
-    omega
-    (arith,
+    omega (
+      arith,
       weigh-add (leaves b) (indexes b) v h q k,
       weigh-le (each (is b)) (λ l s x. leaves b l s x + indexes b l s x) v h q k (λ l s x _. omega (arith, both l s x)),
-      weigh-le (λ l s x. leaves b l s x + indexes b l s x) (each (is b)) v h q k (λ l s x _. omega (arith, both l s x)))
+      weigh-le (λ l s x. leaves b l s x + indexes b l s x) (each (is b)) v h q k (λ l s x _. omega (arith, both l s x)),
+    )
   where
     both : (l s x : ℕ) → is b x ≡ leaves b l s x + indexes b l s x
     both zero s x = omega arith

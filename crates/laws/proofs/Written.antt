@@ -1,15 +1,15 @@
 -- Write keeps soundness and every other file as it was; the bytes read after it are the bytes written, all others are as before.
-use Prim.Native.Nat.{ℕ, zero, suc, _+_, _-_, _*_, _≤_, _<_, _/_, _%_, max}
-use mathlib.Core.Path.{_≡_, refl, sym, ap, _∙_}
-use mathlib.Core.List.{List, [], _∷_}
-use mathlib.Core.Bool.{Bool, true, false, not, false≢true}
-use lib.Dec.{leb, ltb, eqb}
+use Prim.Native.Nat.{ℕ, _+_, _-_, _≤_, _<_, _/_, max}
+use mathlib.Core.Path.{_≡_, refl, sym, _∙_}
+use mathlib.Core.List.{List}
+use mathlib.Core.Bool.{Bool, true, false, false≢true}
+use lib.Dec.{eqb}
 use native.Mathlib.Omega.{arith}
-use borrow.Author.Tests.{eqb-true, eqb-false, eq-eqb, ne-eqb, ltb-true, ltb-false}
+use borrow.Author.Tests.{eqb-true, eqb-false, ltb-false}
 use Rattle.model.specs.Bytes.{Bytes, Octets, _or_}
 use Rattle.model.specs.Map.{room}
-use Rattle.model.specs.Directory.{file, sort, mapPlace, mapBlock, key, eof}
-use Rattle.model.specs.File.{eofMost, span, heightFor, height, above, fileByte, content}
+use Rattle.model.specs.Directory.{mapPlace, mapBlock, key, eof}
+use Rattle.model.specs.File.{eofMost, span, heightFor, above, content}
 use Rattle.model.specs.Grow.{need}
 use Rattle.model.specs.Write.{grown, grownKey, poured, touched, written, writeNeed, writeNumber, write}
 use Rattle.model.specs.Calls.{total, home, spot, target}
@@ -17,16 +17,16 @@ use Rattle.model.specs.Sound.{sound}
 use Rattle.model.specs.declared.Stamp.{Stamp}
 use Rattle.model.specs.Refusals.{Row, settle}
 use Rattle.model.proofs.RefusalLaws.{settle-accepted}
-use Rattle.laws.proofs.Sound.{Sound, facts-sound}
+use Rattle.laws.proofs.Sound.{facts-sound}
 use Rattle.laws.proofs.One.{Others}
 use Rattle.laws.proofs.Weigh.{has-key}
-use Rattle.laws.proofs.Move.{by-lt, Fit, Move, move-fit, move-then, fit-some}
+use Rattle.laws.proofs.Move.{move-fit, move-then, fit-some}
 use Rattle.laws.proofs.Room.{move-room}
 use Rattle.laws.proofs.Need.{need-keys, need-lacks}
 use Rattle.laws.proofs.Pour.{Poured, pour}
 use Rattle.laws.proofs.Entry.{Ready, fit, was-tall, height-most, eof-most, Done, called-done, called-byte}
 use Rattle.laws.proofs.Grown.{height-path, span-most, span-in, Grown, grow}
-use Rattle.laws.proofs.Lookup.{first-zero, not-false}
+use Rattle.laws.proofs.Lookup.{first-zero}
 use Rattle.laws.proofs.Settled.{settled, others-self}
 use Rattle.laws.proofs.Paths.{names-self}
 use Rattle.laws.proofs.Opened.{Opened, opened}
@@ -61,14 +61,15 @@ module _ {n : ℕ} {v : Bytes} {a d h : ℕ} (R : Ready n v a d h) (pos size : �
   Q =
       pour n (span end) (heightFor end) (grownKey mapPlace n v a end) pos size buffer octets (height-most end) (span-most end small) path
       (pos / 512) (touched pos size) (grown mapPlace n v a end) last (move-fit (fit R) (G .move))
-      (omega
-      (arith,
+      (omega (
+        arith,
         enough,
         G .more,
         move-room (fit R) (G .move),
         need-lacks v h (key v a) (grown mapPlace n v a end) (heightFor end) (grownKey mapPlace n v a end) (span end) (pos / 512) (touched pos size)
-        (rw (was-tall R) (height-most (eof v a))) (fit-some (fit R) (key v a) (has-key v h 0 (key v a))) (G .grows) (span-most end small) path last
-        (omega arith)))
+            (rw (was-tall R) (height-most (eof v a))) (fit-some (fit R) (key v a) (has-key v h 0 (key v a))) (G .grows) (span-most end small) path last
+            (omega arith),
+      ))
 
   pub wrote : Wrote n v a (written mapPlace n v a pos buffer size t) pos size buffer
   unfolding written
@@ -78,12 +79,12 @@ module _ {n : ℕ} {v : Bytes} {a d h : ℕ} (R : Ready n v a d h) (pos size : �
       record {
         done = called-done R T end t small refl ends;
         inside = λ i l m.
-          called-byte R T end t small refl ends i (path (i / 512) (span-in end i (omega arith))) ∙ Q .inside i (omega arith) (omega arith) l m;
+            called-byte R T end t small refl ends i (path (i / 512) (span-in end i (omega arith))) ∙ Q .inside i (omega arith) (omega arith) l m;
         outside = λ i l o.
-          called-byte R T end t small refl ends i (path (i / 512) (span-in end i (omega arith)))
-          ∙ Q .outside i (span-in end i (omega arith)) (λ _ _. o)
-          ∙ G .below i l
-          ∙ rw (R .kind) refl;
+            called-byte R T end t small refl ends i (path (i / 512) (span-in end i (omega arith)))
+            ∙ Q .outside i (span-in end i (omega arith)) (λ _ _. o)
+            ∙ G .below i l
+            ∙ rw (R .kind) refl;
       }
 
 or-none : (p q : Bool) → (p or q) ≡ false → (p ≡ false) × (q ≡ false)
@@ -103,15 +104,15 @@ module _ (len : ℕ) (v p : Bytes) (k pos : ℕ) (buffer : Bytes) (size : ℕ) (
   nothing-done n d h R l =
       record {
         done =
-          record {
-            sound = R .sound;
-            others = others-self v a;
-            octets = octets;
-            names = names-self v;
-            ends = omega arith;
-            plain = rw (R .kind) refl;
-            readable = refl;
-          };
+            record {
+              sound = R .sound;
+              others = others-self v a;
+              octets = octets;
+              names = names-self v;
+              ends = omega arith;
+              plain = rw (R .kind) refl;
+              readable = refl;
+            };
         inside = λ i x y. absurd (omega arith);
         outside = λ i x y. refl;
       }
@@ -136,7 +137,7 @@ module _ (len : ℕ) (v p : Bytes) (k pos : ℕ) (buffer : Bytes) (size : ℕ) (
       go h R start most enough false z =
           let some = eqb-false size 0 z in
           let need-is : writeNeed v a pos size ≡ need v h (key v a) (heightFor (max (eof v a) (pos + size))) (pos / 512) (touched pos size) =
-            unfold writeNeed in rw (z, writeNeed) (rw (R .kind) refl) in
+          unfold writeNeed in rw (z, writeNeed) (rw (R .kind) refl) in
           rw (R .sound .place)
           (wrote R pos size buffer lent t (omega arith) (omega arith) (rw (R .sound .place, need-is) at enough))
 
