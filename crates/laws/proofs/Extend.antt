@@ -17,13 +17,14 @@ use Rattle.model.specs.Sound.{links, outside, twins, topFaults, headerFaults, d
 use Rattle.model.specs.Create.{lastBlock, gained}
 use Rattle.model.proofs.ByteLaws.{at-or-off, putWord-out, putLong-out, word-same, word-putWord, word-putWord-off, word-putLong-off, long-putLong, octets-putWord, octets-putLong}
 use Rattle.model.proofs.BitLaws.{is-yes, is-no, is-both, mapAt-in, mapAt-off, taken-in, taken-out, taken-free, taken-octets, rest-taken, MapSame, same-free, same-rest}
-use Rattle.model.proofs.SumLaws.{sum-append, sum-zero, count-none}
+use Rattle.model.proofs.SumLaws.{is-eq, sum-append, sum-zero, count-none}
 use Rattle.laws.proofs.Total.{total-one}
+use Rattle.laws.proofs.Grow.{Way, way-more}
 use Rattle.laws.proofs.Frame.{at-link, at-block, at-place, Alike, Named, next-in, slots-more, slots-last, last-in, chain-more, twins-same}
 use Rattle.laws.proofs.Sound.{deep, top, mine, Sound}
-use Rattle.laws.proofs.Keep.{Head, head-late, header-le, badge-same, misnamed-same, sort-named, sort-at, field-at, eof-at, ftype-at, top-at, directory-blocks, directory-kids}
-use Rattle.laws.proofs.Facts.{level-le, free-mine, free-map, free-volume, DirectoryRight, Seen, directory-key, own-mine, mine-in, mine-once, mine-off, seen-directory, kid-right}
-use Rattle.laws.proofs.One.{Place, place, Touch, in-slot, in-link, Apart, Step, Others, Change, slot-mine, head-mine, slot-map, slot-head, inactive-directory, one-apart, one-directory, one-active, one-twins, one-entry, one-inside, one-sound, one-seen, one-others}
+use Rattle.laws.proofs.Keep.{Head, head-late, header-le, badge-same, misnamed-same, sort-named, sort-at, field-at, eof-at, ftype-at, top-at, directory-blocks, directory-kids, kids-same}
+use Rattle.laws.proofs.Facts.{level-le, free-mine, free-map, free-volume, DirectoryRight, Seen, directory-key, own-mine, mine-in, mine-once, mine-off, seen-directory, kid-right, kid-seen, volume-seen, parent-directory}
+use Rattle.laws.proofs.One.{Place, place, Touch, in-slot, in-link, Apart, Step, Others, Change, slot-mine, head-mine, slot-map, slot-head, inactive-directory, one-apart, one-directory, one-active, one-twins, one-entry, one-inside, one-keeps, one-sound, one-seen, one-others}
 use Rattle.laws.proofs.Spelling.{twins-append}
 
 -- y is the last block of the directory a, and z is free
@@ -190,13 +191,13 @@ module _ {n : ℕ} {v : Bytes} {a d y z : ℕ} (E : Extends n v a d y z) where
   grown-blocks : blocks grown a ≡ blocks v a ++ (z ∷ [])
   grown-blocks = directory-blocks grown a grown-sort ∙ rw (grown-key, grown-used, directory-blocks v a da) (grown-chain .0)
 
-  grown-kids : kids grown a ≡ kids v a ++ slots (z ∷ [])
+  pub grown-kids : kids grown a ≡ kids v a ++ slots (z ∷ [])
   grown-kids =
       directory-kids grown a grown-sort
       ∙ rw (grown-key, grown-used, grown-chain .0, directory-kids v a da)
       (slots-more v (key v a) (used v a) (z ∷ []) (seen-directory S a (P .seen) da .some))
 
-  grown-off : (s : ℕ) → 1 ≤ count s (slots (z ∷ [])) → sort grown s ≡ inactive
+  pub grown-off : (s : ℕ) → 1 ≤ count s (slots (z ∷ [])) → sort grown s ≡ inactive
   unfolding sortOf
   grown-off s h =
       let r = slots-last z s h in
@@ -329,3 +330,16 @@ module _ {n : ℕ} {v : Bytes} {a d y z : ℕ} (E : Extends n v a d y z) where
       (arith,
         same-free mapPlace n (taken mapPlace v z) grown grown-map b l,
         rw zf at (taken-free mapPlace v z b octets (mapAt-off mapPlace n z b l (free-map S z zn zf))))
+
+  pub grown-way : (x k : ℕ) → Way (kids v) x top k → Way (kids grown) x top k
+  grown-way x k w = way-more (kids v) (kids grown) (Seen v) stays x w top (λ y c. (top-seen y c, c))
+    where
+      top-seen : (y : ℕ) → 1 ≤ count y top → Seen v y
+      top-seen y c = unfold sum in rw (is-eq y volume (omega arith)) (volume-seen S)
+
+      stays : (q : ℕ) → Seen v q → (y : ℕ) → 1 ≤ count y (kids v q) → Seen v y × (1 ≤ count y (kids grown q))
+      stays q h y c =
+          (kid-seen S q y h (parent-directory v q y c) c,
+            at-or-off q a
+            (λ e. rw (e, grown-kids) (omega (arith, sum-append (is y) (kids v a) (slots (z ∷ [])), rw e at c)))
+            (λ k. rw (kids-same v grown q (one-keeps grown-step q h k)) c))

@@ -73,6 +73,15 @@ kid-block v x d = go (sort v d)
         all [] = unfold slots sum in omega arith
         all (b ∷ bs) = omega (arith, slots-head x b bs, slots-le x (b ∷ bs))
 
+pub parent-directory : (v : Bytes) (d x : ℕ) → 1 ≤ count x (kids v d) → sort v d ≡ directory
+parent-directory v d x = go (sort v d)
+  where
+    go : (K : Sort) → 1 ≤ count x (slotsBelow K v d) → K ≡ directory
+    go inactive c = absurd (unfold slotsBelow sum in omega arith)
+    go directory c = refl
+    go improper c = absurd (unfold slotsBelow sum in omega arith)
+    go (file h) c = absurd (unfold slotsBelow sum in omega arith)
+
 pub outside-le : (n : ℕ) (v : Bytes) (m q s : ℕ) → outside n (blocks v s) ≤ faults n v m q s
 outside-le n v m q s = go (sort v s) refl
   where

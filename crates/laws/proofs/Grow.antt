@@ -98,6 +98,14 @@ pub way-step : (kids : ℕ → List ℕ) (x d : ℕ) {ss : List ℕ} {k : ℕ} �
 way-step kids x d (here c) h = down d c (here h)
 way-step kids x d (down q c w) h = down q c (way-step kids x d w h)
 
+-- a way stays where each slot that is met keeps the slots below it
+pub way-more : (kids kids′ : ℕ → List ℕ) (good : ℕ → Type 0)
+    → ((q : ℕ) → good q → (y : ℕ) → 1 ≤ count y (kids q) → good y × (1 ≤ count y (kids′ q)))
+    → (x : ℕ) {ss : List ℕ} {k : ℕ} → Way kids x ss k → (ss′ : List ℕ) → ((y : ℕ) → 1 ≤ count y ss → good y × (1 ≤ count y ss′))
+    → Way kids′ x ss′ k
+way-more kids kids′ good f x (here c) ss′ h = here (h x c .1)
+way-more kids kids′ good f x (down q c w) ss′ h = down q (h q c .1) (way-more kids kids′ good f x w (kids′ q) (f q (h q c .0)))
+
 total-mem : (kids : ℕ → List ℕ) (w : Weight) (l p s : ℕ) (ss : List ℕ) → 1 ≤ count s ss → w l p s ≤ total kids w l p ss
 unfolding total
 total-mem kids w zero p s ss k = sum-mem (w 0 p) s ss k

@@ -17,3 +17,4 @@ pub mod Most
 pub mod Fresh
 pub mod Create
 pub mod Extend
+pub mod Created

@@ -67,6 +67,7 @@ pub record Home (v : Bytes) (d k : ℕ) : Type 0 where
   pub seen : Seen v d
   pub holds : sort v d ≡ directory
   pub way : Way (kids v) d top k
+  pub up : (d ≡ volume → ⊥) → (q : ℕ) × Place v d q
 
 -- What a path leads to: y is its last name, and c names follow its first.
 pub data Led (v p : Bytes) (y : Part) (c : ℕ) : Target → Type 0 where
@@ -111,11 +112,12 @@ module _ {n : ℕ} {v : Bytes} (S : Sound n v) (p : Bytes) where
                 seen = kid-seen S d s (H .seen) (H .holds) c;
                 holds = directory-is (sort v s) g;
                 way = way-step (kids v) s d (H .way) c;
+                up = λ _. (d, place s d S (H .seen) (H .holds) c);
               }))
 
   volume-home : Home v volume 0
   unfolding sum
-  volume-home = record { seen = volume-seen S; holds = volume-directory S; way = here {ss = top} (omega arith) }
+  volume-home = record { seen = volume-seen S; holds = volume-directory S; way = here {ss = top} (omega arith); up = λ z. absurd (z refl) }
 
   lookup-led : (ps : List Part) → Led v p (lastPart ps) (length ps - 1) (lookup v p ps)
   unfolding lookup along lastPart
