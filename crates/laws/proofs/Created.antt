@@ -29,24 +29,11 @@ use Rattle.laws.proofs.Spelling.{same-bears, bears-same, bears-named}
 use Rattle.laws.proofs.Lookup.{first-zero, not-false, seek-none, name-size, path-short, path-last, Home, Open, open-led, target-led}
 use Rattle.laws.proofs.Create.{Fresh, a-file, a-directory, Creates, made-sound, made-others}
 use Rattle.laws.proofs.Extend.{Extends, grown-sort, grown-key, grown-sound, grown-others, grown-octets, grown-place, grown-seen, grown-entry, grown-free, grown-way, grown-kids, grown-off}
-use Rattle.laws.proofs.Settled.{settled}
+use Rattle.laws.proofs.Settled.{settled, kept-self, kept-trans}
 
 -- every file is as it was
 abbrev pub Files : Bytes → Bytes → Type 0
 Files v w = (x h : ℕ) → Seen v x → sort v x ≡ file h → Kept v w x
-
-files-self : (v : Bytes) → Files v v
-files-self v x h s e = record { seen = s; entry = λ o l. refl; sorted = refl; owns = refl; bytes = λ b c j l. refl }
-
-kept-trans : {v w u : Bytes} {x : ℕ} → Kept v w x → Kept w u x → Kept v u x
-kept-trans A B =
-    record {
-      seen = B .seen;
-      entry = λ o l. B .entry o l ∙ A .entry o l;
-      sorted = B .sorted ∙ A .sorted;
-      owns = B .owns ∙ A .owns;
-      bytes = λ b c j l. B .bytes b (rw (A .owns) c) j l ∙ A .bytes b c j l;
-    }
 
 -- The first inactive slot.
 vacant-some : (v : Bytes) (ss : List ℕ) (s : ℕ) → vacant v ss ≡ some s → (1 ≤ count s ss) × (sort v s ≡ inactive)
@@ -248,7 +235,7 @@ module _ (len : ℕ) (v p : Bytes) (k : ℕ) (w : Wanted) (octets : Octets v) (S
 
   kept : Right (create len v p k w .image)
   unfolding create Right
-  kept = settled _ _ v _ _ Right (S, files-self v) done
+  kept = settled _ _ v _ _ Right (S, λ x h s e. kept-self s) done
 
   pub create-sound : sound (total len) (create len v p k w .image) ≡ true
   unfolding Right

@@ -1,6 +1,6 @@
 -- Where slots and blocks lie, and what chains, trees, names and twins are read from.
 use Prim.Native.Nat.{ℕ, zero, suc, _+_, _-_, _*_, _≤_, _<_, _/_, _%_}
-use mathlib.Core.Path.{_≡_, refl, sym, ap, _∙_}
+use mathlib.Core.Path.{_≡_, refl, sym, ap, _∙_, fun-ext}
 use mathlib.Core.List.{List, [], _∷_, _++_, append-assoc, map}
 use mathlib.Core.Bool.{Bool, true, false}
 use lib.Dec.{leb, ltb, eqb}
@@ -11,7 +11,7 @@ use borrow.Author.Tests.{eqb-true, eqb-false, ltb-true, ltb-false}
 use Rattle.model.specs.Bytes.{Bytes, sum, count, gather, run, is, one-if, word, within, _and_, _or_}
 use Rattle.model.specs.Names.{letter, nameByte, nameBytes, properName, capital, nameSize, capitalName, alike}
 use Rattle.model.specs.Directory.{at, place, blockOf, slotOf, previous, next, chain, slots, Sort, sort, isActive}
-use Rattle.model.specs.File.{Node, node, pointer, limb, nodes, blocksIn, above, dataBlock}
+use Rattle.model.specs.File.{Node, node, pointer, limb, nodes, blocksIn, above, dataBlock, fileByte}
 use Rattle.model.specs.Sound.{links, twinsOf, twins}
 use Rattle.model.specs.Create.{lastBlock}
 use Rattle.model.proofs.BitLaws.{is-no}
@@ -243,6 +243,16 @@ data-same v v′ (suc h) q k p f =
         → dataBlock v′ (suc h) k p ≡ dataBlock v (suc h) k p
     go e true z g = rw (e, z, dataBlock) refl
     go e false z g = rw (e, z, dataBlock) (rw e (g (λ b c. f b (limb-in v h q k i b (omega arith) z c))))
+
+pub fileByte-same : (v v′ : Bytes) (h k : ℕ) → ((b : ℕ) → 1 ≤ count b (blocksIn (nodes v h 0 k)) → Alike 512 v v′ b) → fileByte v′ h k ≡ fileByte v h k
+unfolding fileByte
+fileByte-same v v′ h k f = fun-ext (λ i. go i (dataBlock v′ h k (i / 512)) (data-same v v′ h 0 k (i / 512) f) (eqb (dataBlock v h k (i / 512)) 0) refl)
+  where
+    go : (i d : ℕ) → d ≡ dataBlock v h k (i / 512) → (z : Bool) → eqb (dataBlock v h k (i / 512)) 0 ≡ z
+        → _≡_ {A = ℕ} (elim (eqb d 0) [ true ↦ 0 | false ↦ v′ (d * 512 + i % 512) ])
+        (elim (eqb (dataBlock v h k (i / 512)) 0) [ true ↦ 0 | false ↦ v (dataBlock v h k (i / 512) * 512 + i % 512) ])
+    go i d e true z = rw (e, z) refl
+    go i d e false z = rw (e, z) (rw e (f (dataBlock v h k (i / 512)) (data-in v h 0 k (i / 512) (eqb-false _ 0 z)) (i % 512) (omega arith)))
 
 -- Names: 16 bytes, the size first.
 abbrev pub Named : Bytes → Bytes → ℕ → Type 0

@@ -11,10 +11,10 @@ use borrow.Author.Tests.{eqb-true, eqb-false, ne-eqb, eq-eqb}
 use Rattle.model.specs.Bytes.{Bytes, sum, count, is, one-if, ne, unless, word, long}
 use Rattle.model.specs.Names.{capitalName, alike}
 use Rattle.model.specs.Directory.{Sort, inactive, directory, improper, file, sortOf, sort, live, at, blockOf, slotOf, slotSize, slotsInBlock, directoryType, volume, volumeBlock, volumeChain, mapPlace, mapBlock, headerKind, headerSlotSize, headerSlots, activeCount, parentBlock, parentSlot, parentSlotSize, field, ftype, key, used, eof, directoryKey, chain, slots, slotsBelow, kids, active}
-use Rattle.model.specs.File.{Node, nodes, blocksIn, blocksOf, blocks, span, heightFor}
+use Rattle.model.specs.File.{Node, nodes, blocksIn, blocksOf, blocks, span, heightFor, height, fileByte, content}
 use Rattle.model.specs.Sound.{links, twins, outside, differ, volumeFaults, headerFaults, topFaults, directoryFaults, late, fileFaults, entryFaults, faultsOf, faults}
 use Rattle.model.proofs.ByteLaws.{word-same, long-same}
-use Rattle.laws.proofs.Frame.{Alike, Named, word-in, next-in, previous-in, chain-same, links-same, nodes-same, capitalName-same, alike-same}
+use Rattle.laws.proofs.Frame.{Alike, Named, word-in, next-in, previous-in, chain-same, links-same, nodes-same, fileByte-same, capitalName-same, alike-same}
 
 -- An entry that is not the volume is read from its slot.
 pub sort-at : (v : Bytes) (s : ℕ) → (s ≡ volume → ⊥) → sort v s ≡ sortOf (v (at s) / 16)
@@ -190,6 +190,10 @@ module _ (v v′ : Bytes) (s : ℕ) (K : Keeps v v′ s) where
       go improper e = unfold blocksOf in refl
       go (file h) e = unfold blocksOf in ap blocksIn (nodes-eq h e)
 
+  pub content-same : (h : ℕ) → sort v s ≡ file h → content v′ s ≡ content v s
+  content-same h e =
+      rw (K .sorted, key-same v v′ s (K .slot), e) (fileByte-same v v′ h (key v s) (λ b c. K .trees h e b (rw (file-blocks v s h e) c)))
+
   pub kids-same : kids v′ s ≡ kids v s
   kids-same = rw (K .sorted) (go (sort v s) refl)
     where
@@ -221,10 +225,10 @@ module _ (v v′ : Bytes) (s : ℕ) (K : Keeps v v′ s) where
       rw (nodes-eq h e, blocks-same, ftype-same v v′ s (K .slot), eof-same v v′ s (K .slot), used-same v v′ s (K .slot)) refl
 
   -- what changes in a directory with the entries in it
-  abbrev pub content : Bytes → ℕ
-  content w = ne (activeCount w (key v s)) (active w (kids v s)) + twins w (kids v s)
+  abbrev pub listed : Bytes → ℕ
+  listed w = ne (activeCount w (key v s)) (active w (kids v s)) + twins w (kids v s)
 
-  directory-le : (n : ℕ) → sort v s ≡ directory → ((s ≡ volume → ⊥) → badge v′ s (key v s) ≤ badge v s (key v s)) → content v′ ≤ content v
+  directory-le : (n : ℕ) → sort v s ≡ directory → ((s ≡ volume → ⊥) → badge v′ s (key v s) ≤ badge v s (key v s)) → listed v′ ≤ listed v
       → directoryFaults n v′ s ≤ directoryFaults n v s
   unfolding directoryFaults
   directory-le n e g c =
@@ -235,7 +239,7 @@ module _ (v v′ : Bytes) (s : ℕ) (K : Keeps v v′ s) where
 
   pub faults-same : (n m q : ℕ) → key v′ q ≡ key v q → misnamed v′ s ≤ misnamed v s
       → (sort v s ≡ directory → (s ≡ volume → ⊥) → badge v′ s (key v s) ≤ badge v s (key v s))
-      → (sort v s ≡ directory → content v′ ≤ content v) → faults n v′ m q s ≤ faults n v m q s
+      → (sort v s ≡ directory → listed v′ ≤ listed v) → faults n v′ m q s ≤ faults n v m q s
   faults-same n m q e g b c = rw (K .sorted) (go (sort v s) refl)
     where
       same : entryFaults v′ q s ≤ entryFaults v q s

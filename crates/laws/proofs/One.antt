@@ -11,7 +11,7 @@ use borrow.Author.Tests.{eqb-true, eqb-false, eq-eqb, ne-eqb, ltb-true, ltb-fals
 use Rattle.model.specs.Bytes.{Bytes, sum, count, is, ne, word, _and_}
 use Rattle.model.specs.Map.{mapBlocks, free, restClear}
 use Rattle.model.specs.Directory.{Sort, inactive, directory, improper, file, sort, live, at, volume, volumeBlock, mapPlace, mapBlock, totalBlocks, previous, activeCount, key, field, slotsBelow, kids, active}
-use Rattle.model.specs.File.{blocksOf, blocks}
+use Rattle.model.specs.File.{blocksOf, blocks, content}
 use Rattle.model.specs.Sound.{prodos, twins, faultsOf, faults}
 use Rattle.model.proofs.BitLaws.{is-yes, is-no}
 use Rattle.model.proofs.ByteLaws.{word-same}
@@ -20,7 +20,7 @@ use Rattle.laws.proofs.Total.{Weight, total, reach, total-le, total-cha
 use Rattle.laws.proofs.Grow.{core-le, core-eq, never, Way, way-step, way-level}
 use Rattle.laws.proofs.Frame.{at-inj, at-link, at-block, at-place, at-head, Alike, Named, word-in, previous-in, twins-same}
 use Rattle.laws.proofs.Sound.{deep, top, sums, fixed, mine, Sound}
-use Rattle.laws.proofs.Keep.{Fields, Head, Keeps, head-word, head-late, map-same, misnamed-same, badge-same, sort-named, key-same, blocks-same, kids-same, faults-same}
+use Rattle.laws.proofs.Keep.{Fields, Head, Keeps, head-word, head-late, map-same, misnamed-same, badge-same, sort-named, key-same, blocks-same, content-same, kids-same, faults-same}
 use Rattle.laws.proofs.Facts.{kid-seen, kid-proper, kid-block, Seen, Placed, seen-placed, kid-placed, kid-once, placed-mine, placed-head, placed-apart, own-mine, seen-once, mine-off, mine-apart, one-parent, directory-key, seen-directory, volume-seen, volume-directory}
 
 -- an entry with no slots below it
@@ -87,13 +87,14 @@ pub data Touch (v : Bytes) (a d b j : ℕ) : Type 0 where
 abbrev pub Apart : Bytes → Bytes → ℕ → ℕ → Type 0
 Apart v v′ a d = (b j : ℕ) → 1 ≤ mine v b → j < 512 → (Touch v a d b j → ⊥) → v′ (b * 512 + j) ≡ v (b * 512 + j)
 
--- a file x that keeps its place, its entry, its blocks and their bytes
+-- a file x that keeps its place, its entry, its blocks, their bytes, and so its own
 pub record Kept (v v′ : Bytes) (x : ℕ) : Type 0 where
   pub seen : Seen v′ x
   pub entry : (o : ℕ) → o < 39 → v′ (at x + o) ≡ v (at x + o)
   pub sorted : sort v′ x ≡ sort v x
   pub owns : blocks v′ x ≡ blocks v x
   pub bytes : (b : ℕ) → 1 ≤ count b (blocks v x) → Alike 512 v v′ b
+  pub reads : content v′ x ≡ content v x
 
 abbrev pub Others : Bytes → Bytes → ℕ → Type 0
 Others v v′ a = (x h : ℕ) → Seen v x → (x ≡ a → ⊥) → sort v x ≡ file h → Kept v v′ x
@@ -422,6 +423,7 @@ module _ {n : ℕ} {v v′ : Bytes} {a d t : ℕ} {c e e′ : List ℕ} (C : Cha
         sorted = same;
         owns = blocks-same v v′ x r;
         bytes = r .trees h f;
+        reads = content-same v v′ x r h f;
       }
     where
       not-volume : x ≡ volume → ⊥

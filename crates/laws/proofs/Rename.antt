@@ -22,7 +22,7 @@ use Rattle.model.proofs.SumLaws.{sum-eq}
 use Rattle.laws.proofs.Total.{reach, total-le, total-eq, Edge, root, child}
 use Rattle.laws.proofs.Frame.{at-inj, at-link, at-place, at-head, at-block, Named, Alike, previous-in, twins-same}
 use Rattle.laws.proofs.Sound.{and-left, and-right, deep, top, Sound, sound-facts, facts-sound}
-use Rattle.laws.proofs.Keep.{Keeps, Head, HeadFrom, head-word, head-late, map-same, misnamed, badge, misnamed-same, badge-same, sort-same, sort-named, key-same, blocks-same, kids-same, faults-same}
+use Rattle.laws.proofs.Keep.{Keeps, Head, HeadFrom, head-word, head-late, map-same, misnamed, badge, misnamed-same, badge-same, sort-same, sort-named, key-same, blocks-same, content-same, kids-same, faults-same}
 use Rattle.laws.proofs.Facts.{Seen, Placed, seen-placed, kid-placed, placed-head, placed-proper, kid-once, mine-apart, directory-key, seen-directory, volume-seen, volume-directory}
 use Rattle.laws.proofs.One.{Place, Others, slot-head, file-directory, one-entry}
 use Rattle.laws.proofs.Spelling.{Bears, same-bears, bears-same, bears-capital, bears-alike, alike-bears, alike-back, bears-named, stored, twins-two, twins-change}
@@ -250,6 +250,7 @@ module _ {n : ℕ} {v : Bytes} (q : Bytes) (j : ℕ) (S : Sound n v) (proper : p
         sorted = K .sorted;
         owns = blocks-same v after x K;
         bytes = K .trees h e;
+        reads = content-same v after x K h e;
       }
 
 -- The call.

@@ -14,5 +14,20 @@ unfolding settle
 settled k r old d new Q q f =
     at-or-off k 0 (λ e. rw (settle-accepted k r old d new e .1) (f e)) (λ n. rw (settle-refused k r old d new n .1) q)
 
+-- Files as they were.
+pub kept-self : {v : Bytes} {x : ℕ} → Seen v x → Kept v v x
+kept-self s = record { seen = s; entry = λ o l. refl; sorted = refl; owns = refl; bytes = λ b c j l. refl; reads = refl }
+
+pub kept-trans : {v w u : Bytes} {x : ℕ} → Kept v w x → Kept w u x → Kept v u x
+kept-trans A B =
+    record {
+      seen = B .seen;
+      entry = λ o l. B .entry o l ∙ A .entry o l;
+      sorted = B .sorted ∙ A .sorted;
+      owns = B .owns ∙ A .owns;
+      bytes = λ b c j l. B .bytes b (rw (A .owns) c) j l ∙ A .bytes b c j l;
+      reads = B .reads ∙ A .reads;
+    }
+
 pub others-self : (v : Bytes) (a : ℕ) → Others v v a
-others-self v a x h s k e = record { seen = s; entry = λ o l. refl; sorted = refl; owns = refl; bytes = λ b c j l. refl }
+others-self v a x h s k e = kept-self s
