@@ -18,3 +18,4 @@ pub mod Fresh
 pub mod Create
 pub mod Extend
 pub mod Created
+pub mod Refile

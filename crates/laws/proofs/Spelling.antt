@@ -165,6 +165,13 @@ bears-named v v′ b q x s f B =
       spelled = λ i l. sym (rw (add-assoc b 1 i) (f (1 + i) (omega arith))) ∙ B .spelled i l;
     }
 
+pub alike-sym : (v : Bytes) (a b : ℕ) → alike v a b ≡ true → alike v b a ≡ true
+unfolding alike
+alike-sym v a b e =
+    let s : nameSize v a ≡ nameSize v b = eqb-true _ _ (and-left _ _ e) in
+    and-both (eqb (nameSize v b) (nameSize v a)) (equalBytes v (b + 1) v (a + 1) (nameSize v b)) (eq-eqb _ _ (sym s))
+    (rw (← s) (equal-all v (b + 1) v (a + 1) (nameSize v a) (λ i l. sym (equal-at v (a + 1) v (b + 1) (nameSize v a) (and-right _ _ e) i l))))
+
 -- Twins.
 not-both : (p q : Bool) → (p ≡ true → q ≡ true → ⊥) → one-if (p and q) ≡ 0
 unfolding _and_
