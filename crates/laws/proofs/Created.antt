@@ -78,7 +78,7 @@ pub data Wants (w : Wanted) : Type 0 where
   want-file : w .kind ≡ 1 → (w .ftype ≡ directoryType → ⊥) → Wants w
   want-directory : w .kind ≡ directoryKind → w .ftype ≡ directoryType → Wants w
 
-wants : (w : Wanted) → (eqb (w .kind) 1 or eqb (w .kind) directoryKind) ≡ true → wrongType w ≡ false → Wants w
+pub wants : (w : Wanted) → (eqb (w .kind) 1 or eqb (w .kind) directoryKind) ≡ true → wrongType w ≡ false → Wants w
 unfolding wrongType _or_
 wants w e f = go (eqb (w .kind) directoryKind) refl (eqb (w .kind) 1) refl e f
   where

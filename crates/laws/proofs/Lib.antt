@@ -19,3 +19,4 @@ pub mod Create
 pub mod Extend
 pub mod Created
 pub mod Refile
+pub mod Octet

@@ -42,6 +42,13 @@ capital-other : (c : ℕ) → within 97 122 c ≡ false → capital c ≡ c
 unfolding capital
 capital-other c e = rw (e, capital) refl
 
+pub capital-most : (c : ℕ) → capital c ≤ c
+capital-most c = go (within 97 122 c) refl
+  where
+    go : (b : Bool) → within 97 122 c ≡ b → capital c ≤ c
+    go true e = rw (capital-small c e) (omega arith)
+    go false e = rw (capital-other c e) (omega arith)
+
 capital-twice : (c : ℕ) → capital (capital c) ≡ capital c
 capital-twice c = go (within 97 122 c) refl
   where
