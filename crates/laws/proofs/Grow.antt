@@ -23,7 +23,7 @@ unfolding total sum
 total-nil kids w zero p = refl
 total-nil kids w (suc l) p = refl
 
-total-inert : (kids : ℕ → List ℕ) (w : Weight) (l p : ℕ) (ss : List ℕ)
+pub total-inert : (kids : ℕ → List ℕ) (w : Weight) (l p : ℕ) (ss : List ℕ)
     → ((m s : ℕ) → 1 ≤ count s ss → (kids s ≡ []) × (w m p s ≡ 0)) → total kids w l p ss ≡ 0
 unfolding total
 total-inert kids w zero p ss f = sum-zero _ ss (λ s k. f 0 s k .1)

@@ -20,3 +20,4 @@ pub mod Extend
 pub mod Created
 pub mod Refile
 pub mod Octet
+pub mod Format

@@ -14,6 +14,10 @@ unfolding settle
 settled k r old d new Q q f =
     at-or-off k 0 (λ e. rw (settle-accepted k r old d new e .1) (f e)) (λ n. rw (settle-refused k r old d new n .1) q)
 
+pub done-image : {P : Type 0} (k : ℕ) (r : P) (old : Bytes) (d : P) (new : Bytes) → k ≡ 0 → settle k r old d new .image ≡ new
+unfolding settle
+done-image k r old d new e = settle-accepted k r old d new e .1
+
 -- Files as they were.
 pub kept-self : {v : Bytes} {x : ℕ} → Seen v x → Kept v v x
 kept-self s = record { seen = s; entry = λ o l. refl; sorted = refl; owns = refl; bytes = λ b c j l. refl; reads = refl }
