@@ -1,34 +1,32 @@
 -- The call create keeps soundness, and every file as it was: in a vacant slot, and in a full subdirectory, which gains a block first.
-use Prim.Native.Nat.{ℕ, suc, _+_, _-_, _*_, _≤_, _<_}
+use Prim.Native.Nat.{ℕ, suc, _+_, _*_, _≤_, _<_}
 use mathlib.Core.Path.{_≡_, refl, sym, ap, _∙_}
-use mathlib.Core.List.{List, [], _∷_, _++_}
+use mathlib.Core.List.{List, [], _∷_}
 use mathlib.Core.Option.{Option, none, some}
 use mathlib.Core.Bool.{Bool, true, false, not, false≢true}
 use lib.Dec.{ltb, eqb}
-use lib.ListN.{drop, length, length-drop}
+use lib.ListN.{length, length-drop}
 use native.Mathlib.Omega.{arith}
 use borrow.Author.Tests.{eqb-true, eqb-false, eq-eqb, ltb-false, ltb-true}
-use Rattle.model.specs.Bytes.{Bytes, Octets, sum, count, is, _and_, _or_}
+use Rattle.model.specs.Bytes.{Bytes, Octets, sum, count, is, _or_}
 use Rattle.model.specs.Names.{Part, parts, properPath, properName, sameName}
-use Rattle.model.specs.Map.{free, room, lowest}
-use Rattle.model.specs.Directory.{Sort, inactive, directory, improper, file, sort, isActive, live, at, volume, directoryType, mapPlace, mapBlock, key, used, chain, slots, kids, active, vacant, seek, Target}
-use Rattle.model.specs.Calls.{total, target, home, lastPart, isThere}
+use Rattle.model.specs.Map.{room, lowest}
+use Rattle.model.specs.Directory.{Sort, inactive, directory, improper, file, sort, isActive, live, at, volume, directoryType, mapPlace, mapBlock, key, used, chain, slots, kids, active, vacant, seek}
+use Rattle.model.specs.Calls.{total, target, home, lastPart}
 use Rattle.model.specs.Create.{Wanted, directoryKind, lastBlock, gained, entered, createdAt, created, isFull, full, createNeed, wrongType, createNumber, create}
 use Rattle.model.specs.Sound.{sound}
-use Rattle.model.proofs.ByteLaws.{at-or-off}
 use Rattle.model.proofs.BitLaws.{room-one, room-lowest, lowest-free}
 use Rattle.model.proofs.SumLaws.{is-self, sum-append}
-use Rattle.laws.proofs.Grow.{Way}
 use Rattle.laws.proofs.Frame.{chain-length, slots-length, slots-first}
-use Rattle.laws.proofs.Sound.{and-left, and-right, and-both, top, Sound, sound-facts, facts-sound}
+use Rattle.laws.proofs.Sound.{and-both, Sound, sound-facts, facts-sound}
 use Rattle.laws.proofs.Keep.{directory-kids}
-use Rattle.laws.proofs.Facts.{Seen, seen-directory}
+use Rattle.laws.proofs.Facts.{Seen}
 use Rattle.laws.proofs.Most.{directory-most}
-use Rattle.laws.proofs.One.{Place, place, Kept, Others, file-directory, inactive-file, way-bottom, bottom}
+use Rattle.laws.proofs.One.{Place, place, Kept, file-directory, inactive-file, way-bottom, bottom}
 use Rattle.laws.proofs.Spelling.{same-bears, bears-same, bears-named}
-use Rattle.laws.proofs.Lookup.{first-zero, not-false, seek-none, name-size, path-short, path-last, Home, Open, open-led, target-led}
+use Rattle.laws.proofs.Lookup.{first-zero, not-false, seek-none, name-size, path-short, path-last, Home, open-led, target-led}
 use Rattle.laws.proofs.Create.{Fresh, a-file, a-directory, Creates, made-sound, made-others}
-use Rattle.laws.proofs.Extend.{Extends, grown-sort, grown-key, grown-sound, grown-others, grown-octets, grown-place, grown-seen, grown-entry, grown-free, grown-way, grown-kids, grown-off}
+use Rattle.laws.proofs.Extend.{Extends, grown-sound, grown-others, grown-octets, grown-place, grown-entry, grown-free, grown-way, grown-kids, grown-off}
 use Rattle.laws.proofs.Settled.{settled, kept-self, kept-trans}
 
 -- every file is as it was
@@ -63,15 +61,16 @@ vacant-none v (t ∷ ss) e = go (sort v t) refl e (vacant-none v ss)
 -- a directory with no inactive slot has at most 4,681 blocks
 full-low : {n : ℕ} {v : Bytes} (S : Sound n v) (d : ℕ) → Seen v d → sort v d ≡ directory → vacant v (kids v d) ≡ none → used v d < 32767
 full-low {n} {v} S d h e f =
-    omega
-    (arith,
+    omega (
+      arith,
       S .small,
       directory-most S d h e,
       vacant-none v (kids v d) f,
       ap (length {A = ℕ}) (directory-kids v d e),
       length-drop 1 (slots (chain v (key v d) (used v d))),
       slots-length (chain v (key v d) (used v d)),
-      chain-length v (key v d) (used v d))
+      chain-length v (key v d) (used v d),
+    )
 
 -- What is wanted is a file or a directory.
 pub data Wants (w : Wanted) : Type 0 where
@@ -103,8 +102,7 @@ fresh v a (want-directory e f) b = a-directory e f b
 
 -- In a directory d, k steps below the volume.
 module _ {n : ℕ} {v : Bytes} {d k : ℕ} (p : Bytes) (x : Part) {w : Wanted} (octets : Octets v) (S : Sound n v) (H : Home v d k)
-  (lacks : seek v p x (kids v d) ≡ none) (proper : properName p (x .start) (x .size) ≡ true) (short : 2 * (k + 2) ≤ 64) (W : Wants w) where
-
+    (lacks : seek v p x (kids v d) ≡ none) (proper : properName p (x .start) (x .size) ≡ true) (short : 2 * (k + 2) ≤ 64) (W : Wants w) where
   -- a vacant slot
   module _ (s : ℕ) (e : vacant v (kids v d) ≡ some s) (r : 1 ≤ room mapPlace v n) where
     slot-place : Place v s d
@@ -153,9 +151,10 @@ module _ {n : ℕ} {v : Bytes} {d k : ℕ} (p : Bytes) (x : Part) {w : Wanted} (
 
     full-room : 1 ≤ room mapPlace g n
     full-room =
-        omega
-        (arith,
-          room-one mapPlace g v z 1 n (λ b l. omega (arith, grown-free full-extends b l)) (room-lowest mapPlace v n (omega arith)))
+        omega (
+          arith,
+          room-one mapPlace g v z 1 n (λ b l. omega (arith, grown-free full-extends b l)) (room-lowest mapPlace v n (omega arith)),
+        )
 
     full-lacks : (s : ℕ) → 1 ≤ count s (kids g d) → isActive (sort g s) ≡ true → sameName g (at s) p x ≡ true → ⊥
     full-lacks s c a b = go (ltb 0 (count s (slots (z ∷ [])))) refl
@@ -164,7 +163,7 @@ module _ {n : ℕ} {v : Bytes} {d k : ℕ} (p : Bytes) (x : Part) {w : Wanted} (
         go true f = false≢true (rw (grown-off full-extends s (ltb-true 0 (count s (slots (z ∷ []))) f)) at a)
         go false f =
             let c′ : 1 ≤ count s (kids v d) =
-              omega (arith, ltb-false 0 (count s (slots (z ∷ []))) f, sum-append (is s) (kids v d) (slots (z ∷ [])), rw (grown-kids full-extends) at c) in
+            omega (arith, ltb-false 0 (count s (slots (z ∷ []))) f, sum-append (is s) (kids v d) (slots (z ∷ [])), rw (grown-kids full-extends) at c) in
             let m = grown-entry full-extends s c′ in
             seek-none v p x (kids v d) lacks s c′ (rw (← m .0) a)
             (bears-same v (at s) p x
@@ -228,9 +227,9 @@ module _ (len : ℕ) (v p : Bytes) (k : ℕ) (w : Wanted) (octets : Octets v) (S
       let path : properPath p k ≡ true = not-false _ (r₃ .0) in
       let O = open-led (target-led facts p k) (r₆ .0) (r₇ .0) (r₈ .0) in
       let R = create-right p (lastPart (parts p k)) octets facts (O .home) (O .lacks) (path-last p k path (omega (arith, O .depth)))
-        (omega (arith, O .depth, path-short p k path)) (wants w (not-false _ (r₄ .0)) (r₅ .0))
-        (λ f z. false≢true (sym (r₉ .0) ∙ and-both _ _ (eq-eqb where-to volume z) f))
-        (rw (facts .place) at (ltb-false (room (mapBlock v) v (total len)) (createNeed v where-to) (r₁₀ .0))) in
+      (omega (arith, O .depth, path-short p k path)) (wants w (not-false _ (r₄ .0)) (r₅ .0))
+      (λ f z. false≢true (sym (r₉ .0) ∙ and-both _ _ (eq-eqb where-to volume z) f))
+      (rw (facts .place) at (ltb-false (room (mapBlock v) v (total len)) (createNeed v where-to) (r₁₀ .0))) in
       rw (facts .place) (facts-sound (R .0), R .1)
 
   kept : Right (create len v p k w .image)

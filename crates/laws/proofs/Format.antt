@@ -2,30 +2,29 @@
 use Prim.Native.Nat.{ℕ, zero, suc, _+_, _-_, _*_, _≤_, _<_, _/_, _%_}
 use mathlib.Core.Path.{_≡_, refl, sym, ap, _∙_}
 use mathlib.Core.List.{List, [], _∷_}
-use mathlib.Core.Bool.{Bool, true, false, not}
-use lib.Dec.{leb, ltb, eqb}
+use mathlib.Core.Bool.{Bool, true, false}
+use lib.Dec.{leb, ltb}
 use lib.ListN.{drop}
 use native.Mathlib.Omega.{arith}
-use native.Mathlib.Nat.{add-zero, add-assoc}
-use borrow.Author.Tests.{eq-eqb, leb-true, leb-false, lt-leb, ltb-true, ltb-false}
-use Rattle.model.specs.Bytes.{Bytes, Octets, sum, count, run, is, one-if, ne, unless, put, paste, from, zeros, digit, word, putWord, within, _and_}
-use Rattle.model.specs.Names.{Part, part, properName, capitalName}
-use Rattle.model.specs.Map.{mapBlocks, mapAt, free, restClear, freshMap}
-use Rattle.model.specs.Directory.{Sort, inactive, directory, sortOf, sort, isActive, live, at, volume, volumeBlock, volumeChain, mapPlace, slotSize, slotsInBlock, directoryType, previous, next, headerKind, headerSlotSize, headerSlots, activeCount, mapBlock, totalBlocks, field, ftype, key, used, eof, directoryKey, chain, slots, slotsBelow, kids, active}
+use borrow.Author.Tests.{eq-eqb, leb-true, leb-false, lt-leb}
+use Rattle.model.specs.Bytes.{Bytes, sum, count, run, one-if, paste, zeros, digit, word, putWord, _and_}
+use Rattle.model.specs.Names.{part, properName, capitalName}
+use Rattle.model.specs.Map.{mapBlocks, mapAt, free, freshMap}
+use Rattle.model.specs.Directory.{inactive, sortOf, sort, live, at, volume, volumeChain, mapPlace, slotSize, slotsInBlock, previous, next, activeCount, mapBlock, totalBlocks, field, ftype, eof, chain, slots, slotsBelow, kids, active}
 use Rattle.model.specs.File.{blocksOf, blocks}
 use Rattle.model.specs.Walk.{levelMost}
-use Rattle.model.specs.Sound.{wholeBlocks, prodos, links, differ, outside, twins, volumeFaults, topFaults, directoryFaults, entryFaults, faultsOf, faults, sound}
+use Rattle.model.specs.Sound.{wholeBlocks, prodos, links, differ, outside, twins, volumeFaults, topFaults, directoryFaults, faultsOf, faults, sound}
 use Rattle.model.specs.Calls.{total, nameField, nothing}
 use Rattle.model.specs.Format.{linked, headerBytes, volumeHeader, formatted, formatNumber, format}
 use Rattle.model.specs.declared.Stamp.{Stamp}
-use Rattle.model.proofs.ByteLaws.{put-at, put-off, paste-at, paste-in, paste-out, paste-before, paste-after, putWord-out, word-putWord, word-putWord-off, word-paste, word-paste-off, word-same}
-use Rattle.model.proofs.BitLaws.{is-yes, is-no, mapAt-in, fresh-free, fresh-yes, fresh-no, fresh-rest}
-use Rattle.model.proofs.SumLaws.{is-self, sum-append, sum-zero, run-in, run-low, run-high, run-has, run-most}
+use Rattle.model.proofs.ByteLaws.{put-at, put-off, paste-at, paste-in, paste-out, paste-before, paste-after, putWord-out, word-putWord, word-putWord-off, word-same}
+use Rattle.model.proofs.BitLaws.{is-no, mapAt-in, fresh-free, fresh-yes, fresh-no, fresh-rest}
+use Rattle.model.proofs.SumLaws.{sum-zero, run-in, run-low, run-high, run-has, run-most}
 use Rattle.laws.proofs.Total as Totals
 use Rattle.laws.proofs.Total.{Weight}
 use Rattle.laws.proofs.Grow.{total-inert}
-use Rattle.laws.proofs.Frame.{at-place, slots-le}
-use Rattle.laws.proofs.Sound.{and-left, and-right, and-both, deep, top, sums, fixed, mine, Sound, facts-sound}
+use Rattle.laws.proofs.Frame.{at-place}
+use Rattle.laws.proofs.Sound.{and-right, and-both, deep, sums, fixed, mine, Sound, facts-sound}
 use Rattle.laws.proofs.Keep.{sort-at}
 use Rattle.laws.proofs.One.{leaf, inactive-directory, off-blocks}
 use Rattle.laws.proofs.Spelling.{within-is, Bears, bears-capital, stored, twins-off}
@@ -58,16 +57,31 @@ low-owned k (suc (suc (suc (suc zero)))) l = omega (arith, run-low k 6 4 (omega 
 low-owned k (suc (suc (suc (suc (suc zero))))) l = omega (arith, run-low k 6 5 (omega arith))
 low-owned k (suc (suc (suc (suc (suc (suc b)))))) l =
     let c : ℕ = suc (suc (suc (suc (suc (suc b))))) in
-    omega
-    (arith, run-has k 6 c (omega arith) (omega arith), run-most k 6 c, is-no c 0 (λ e. omega arith), is-no c 1 (λ e. omega arith),
-      is-no c 2 (λ e. omega arith), is-no c 3 (λ e. omega arith), is-no c 4 (λ e. omega arith), is-no c 5 (λ e. omega arith))
+    omega (
+      arith,
+      run-has k 6 c (omega arith) (omega arith),
+      run-most k 6 c,
+      is-no c 0 (λ e. omega arith),
+      is-no c 1 (λ e. omega arith),
+      is-no c 2 (λ e. omega arith),
+      is-no c 3 (λ e. omega arith),
+      is-no c 4 (λ e. omega arith),
+      is-no c 5 (λ e. omega arith),
+    )
 
 high-owned : (k b : ℕ) → mapPlace + k ≤ b → count b (0 ∷ 1 ∷ run mapPlace k) + count b volumeChain ≡ 0
 unfolding sum
 high-owned k b l =
-    omega
-    (arith, run-high k 6 b l, is-no b 0 (λ e. omega arith), is-no b 1 (λ e. omega arith), is-no b 2 (λ e. omega arith),
-      is-no b 3 (λ e. omega arith), is-no b 4 (λ e. omega arith), is-no b 5 (λ e. omega arith))
+    omega (
+      arith,
+      run-high k 6 b l,
+      is-no b 0 (λ e. omega arith),
+      is-no b 1 (λ e. omega arith),
+      is-no b 2 (λ e. omega arith),
+      is-no b 3 (λ e. omega arith),
+      is-no b 4 (λ e. omega arith),
+      is-no b 5 (λ e. omega arith),
+    )
 
 volume-slots : drop 1 (slots volumeChain) ≡ run 27 51
 unfolding slots run
@@ -107,15 +121,21 @@ module _ (n : ℕ) (q : Bytes) (j : ℕ) (t : Stamp) (large : 16 ≤ n) (small :
   -- the links, both ways
   new-next : (next new 2 ≡ 3) × (next new 3 ≡ 4) × (next new 4 ≡ 5) × (next new 5 ≡ 0)
   unfolding word linked putWord paste digit
-  new-next =
-      (new-word 1026 (omega arith) (λ g h. omega arith), new-word 1538 (omega arith) (λ g h. omega arith),
-        new-word 2050 (omega arith) (λ g h. omega arith), new-word 2562 (omega arith) (λ g h. omega arith))
+  new-next = (
+    new-word 1026 (omega arith) (λ g h. omega arith),
+    new-word 1538 (omega arith) (λ g h. omega arith),
+    new-word 2050 (omega arith) (λ g h. omega arith),
+    new-word 2562 (omega arith) (λ g h. omega arith),
+  )
 
   new-previous : (previous new 2 ≡ 0) × (previous new 3 ≡ 2) × (previous new 4 ≡ 3) × (previous new 5 ≡ 4)
   unfolding word linked putWord paste digit
-  new-previous =
-      (new-word 1024 (omega arith) (λ g h. omega arith), new-word 1536 (omega arith) (λ g h. omega arith),
-        new-word 2048 (omega arith) (λ g h. omega arith), new-word 2560 (omega arith) (λ g h. omega arith))
+  new-previous = (
+    new-word 1024 (omega arith) (λ g h. omega arith),
+    new-word 1536 (omega arith) (λ g h. omega arith),
+    new-word 2048 (omega arith) (λ g h. omega arith),
+    new-word 2560 (omega arith) (λ g h. omega arith),
+  )
 
   new-chain : chain new 2 4 ≡ volumeChain
   unfolding chain
@@ -173,9 +193,9 @@ module _ (n : ℕ) (q : Bytes) (j : ℕ) (t : Stamp) (large : 16 ≤ n) (small :
   new-bears =
       stored new 1028 q (part 0 j) 0xF size
       (λ i l.
-        let e : 1028 + i ≡ 1024 + (4 + i) = omega arith in
-        let f : 4 + i - 4 ≡ i = omega arith in
-        rw e (new-head (4 + i) (omega arith) (omega arith)) ∙ ap head f ∙ head-name i l)
+      let e : 1028 + i ≡ 1024 + (4 + i) = omega arith in
+      let f : 4 + i - 4 ≡ i = omega arith in
+      rw e (new-head (4 + i) (omega arith) (omega arith)) ∙ ap head f ∙ head-name i l)
 
   new-place : mapBlock new ≡ mapPlace
   new-place = word-same new head 1063 0x23 (new-head 39 (omega arith) (omega arith)) (new-head 40 (omega arith) (omega arith)) ∙ head-map
@@ -186,9 +206,12 @@ module _ (n : ℕ) (q : Bytes) (j : ℕ) (t : Stamp) (large : 16 ≤ n) (small :
   new-count : activeCount new 2 ≡ 0
   unfolding word
   new-count =
-      rw
-      (new-head 37 (omega arith) (omega arith), new-head 38 (omega arith) (omega arith), head-zero 0x21 (omega arith) (omega arith),
-        head-zero 0x22 (omega arith) (omega arith))
+      rw (
+        new-head 37 (omega arith) (omega arith),
+        new-head 38 (omega arith) (omega arith),
+        head-zero 0x21 (omega arith) (omega arith),
+        head-zero 0x22 (omega arith) (omega arith),
+      )
       refl
 
   new-sign : prodos n new ≡ true
@@ -213,18 +236,20 @@ module _ (n : ℕ) (q : Bytes) (j : ℕ) (t : Stamp) (large : 16 ≤ n) (small :
       let e : at s ≡ s / 13 * 512 + (4 + 39 * (s % 13)) = omega (arith, at-place s 0) in
       let o : s / 13 ≡ 2 → 1 ≤ s % 13 = λ h. omega arith in
       sort-at new s (λ h. omega arith)
-      ∙ rw
-      (new-ways (at s) (omega arith) (λ g h. let two : s / 13 ≡ 2 = omega arith in omega (arith, o two)),
-        linked-off zeros 0 volumeChain (at s) (rw (e, in-block (s / 13) (4 + 39 * (s % 13)) (omega arith)) (omega arith)))
+      ∙ rw (
+        new-ways (at s) (omega arith) (λ g h. let two : s / 13 ≡ 2 = omega arith in omega (arith, o two)),
+        linked-off zeros 0 volumeChain (at s) (rw (e, in-block (s / 13) (4 + 39 * (s % 13)) (omega arith)) (omega arith)),
+      )
       refl
 
   new-sums : (w : Weight) → ((m s : ℕ) → sort new s ≡ inactive → w m volume s ≡ 0) → sums new w ≡ w deep volume volume
   unfolding Totals.total sum
   new-sums w f =
-      omega
-      (arith,
+      omega (
+        arith,
         total-inert (kids new) w levelMost volume (kids new volume)
-        (λ m s c. (leaf new s (λ e. inactive-directory (sym (new-off s c) ∙ e)), f m s (new-off s c))))
+            (λ m s c. (leaf new s (λ e. inactive-directory (sym (new-off s c) ∙ e)), f m s (new-off s c))),
+      )
 
   new-blocks : blocks new volume ≡ volumeChain
   unfolding sort blocksOf field

@@ -1,16 +1,16 @@
 -- Where slots and blocks lie, and what chains, trees, names and twins are read from.
-use Prim.Native.Nat.{ℕ, zero, suc, _+_, _-_, _*_, _≤_, _<_, _/_, _%_}
+use Prim.Native.Nat.{ℕ, zero, suc, _+_, _*_, _≤_, _<_, _/_, _%_}
 use mathlib.Core.Path.{_≡_, refl, sym, ap, _∙_, fun-ext}
-use mathlib.Core.List.{List, [], _∷_, _++_, append-assoc, map}
+use mathlib.Core.List.{List, [], _∷_, _++_, append-assoc}
 use mathlib.Core.Bool.{Bool, true, false}
-use lib.Dec.{leb, ltb, eqb}
+use lib.Dec.{ltb, eqb}
 use lib.ListN.{drop, length}
 use native.Mathlib.Omega.{arith}
 use native.Mathlib.Nat.{add-zero, add-assoc}
-use borrow.Author.Tests.{eqb-true, eqb-false, ltb-true, ltb-false}
-use Rattle.model.specs.Bytes.{Bytes, sum, count, gather, run, is, one-if, word, within, _and_, _or_}
-use Rattle.model.specs.Names.{letter, nameByte, nameBytes, properName, capital, nameSize, capitalName, alike}
-use Rattle.model.specs.Directory.{at, place, blockOf, slotOf, previous, next, chain, slots, Sort, sort, isActive}
+use borrow.Author.Tests.{eqb-false, ltb-true, ltb-false}
+use Rattle.model.specs.Bytes.{Bytes, sum, count, gather, run, is, one-if, word}
+use Rattle.model.specs.Names.{nameByte, nameBytes, properName, capital, nameSize, capitalName, alike}
+use Rattle.model.specs.Directory.{at, previous, next, chain, slots, sort, isActive}
 use Rattle.model.specs.File.{Node, node, pointer, limb, nodes, blocksIn, above, dataBlock, fileByte}
 use Rattle.model.specs.Sound.{links, twinsOf, twins}
 use Rattle.model.specs.Create.{lastBlock}
@@ -177,13 +177,14 @@ pub limb-in : (v : Bytes) (h q k i b : ℕ) → i < 256 → eqb (pointer v k i) 
     → 1 ≤ count b (blocksIn (nodes v h (q * 256 + i) (pointer v k i))) → 1 ≤ count b (blocksIn (nodes v (suc h) q k))
 unfolding nodes sum
 limb-in v h q k i b l z c =
-    omega
-    (arith,
+    omega (
+      arith,
       holds b (gather t (run 0 256)),
       sum-gather (λ x. is b (x .block)) t (run 0 256),
       sum-mem (λ x. sum (λ y. is b (y .block)) (t x)) i (run 0 256) (run-has 256 0 i (omega arith) (omega arith)),
       holds b (t i),
-      limb-at)
+      limb-at,
+    )
   where
     t : ℕ → List Node
     t = limb (λ r p. nodes v h r p) v q k
@@ -202,8 +203,8 @@ nodes-same v v′ zero q k f = refl
 nodes-same v v′ (suc h) q k f =
     ap (λ ns. node (suc h) q k ∷ ns)
     (gather-same _ _ (run 0 256) (λ i c.
-      let l : i < 256 = omega (arith, run-in 256 0 i c .1) in
-      one i l (pointer-in v v′ k i (f k (key-in v (suc h) q k)) l) (eqb (pointer v k i) 0) refl (nodes-same v v′ h (q * 256 + i) (pointer v k i))))
+    let l : i < 256 = omega (arith, run-in 256 0 i c .1) in
+    one i l (pointer-in v v′ k i (f k (key-in v (suc h) q k)) l) (eqb (pointer v k i) 0) refl (nodes-same v v′ h (q * 256 + i) (pointer v k i))))
   where
     one : (i : ℕ) → i < 256 → pointer v′ k i ≡ pointer v k i → (z : Bool) → eqb (pointer v k i) 0 ≡ z
         → (((b : ℕ) → 1 ≤ count b (blocksIn (nodes v h (q * 256 + i) (pointer v k i))) → Alike 512 v v′ b)
@@ -278,21 +279,23 @@ unfolding capitalName properName
 capitalName-spelled v v′ a f =
     let k = v a % 16 in
     let g : (i : ℕ) → i < k → v′ (a + 1 + i) ≡ v (a + 1 + i) = λ i l. rw (add-assoc a 1 i) (f .1 (1 + i) (omega arith) (omega arith)) in
-    rw
-    (f .0,
+    rw (
+      f .0,
       f .1 1 (omega arith) (omega arith),
       nameBytes-same v v′ (a + 1) k g,
-      equal-cong v′ (a + 1) (λ i. capital (v′ i)) (a + 1) k v (a + 1) (λ i. capital (v i)) (a + 1) g (λ i l. ap capital (g i l)))
+      equal-cong v′ (a + 1) (λ i. capital (v′ i)) (a + 1) k v (a + 1) (λ i. capital (v i)) (a + 1) g (λ i l. ap capital (g i l)),
+    )
     refl
 
 pub alike-spelled : (v v′ : Bytes) (a b : ℕ) → Spelled v v′ a → Spelled v v′ b → alike v′ a b ≡ alike v a b
 unfolding alike
 alike-spelled v v′ a b f g =
-    rw
-    (f .0,
+    rw (
+      f .0,
       g .0,
       equal-cong v′ (a + 1) v′ (b + 1) (v a % 16) v (a + 1) v (b + 1)
-      (λ i l. rw (add-assoc a 1 i) (f .1 (1 + i) (omega arith) (omega arith))) (λ i l. rw (add-assoc b 1 i) (g .1 (1 + i) (omega arith) (omega arith))))
+          (λ i l. rw (add-assoc a 1 i) (f .1 (1 + i) (omega arith) (omega arith))) (λ i l. rw (add-assoc b 1 i) (g .1 (1 + i) (omega arith) (omega arith))),
+    )
     refl
 
 pub capitalName-same : (v v′ : Bytes) (a : ℕ) → Named v v′ a → capitalName v′ a ≡ capitalName v a

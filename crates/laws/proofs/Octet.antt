@@ -1,17 +1,15 @@
 -- What the calls leave is bytes again, each below 256: so calls may follow one another. (Destroy has it in Destroy.antt.)
-use Prim.Native.Nat.{ℕ, _+_, _-_, _*_, _≤_, _<_, _/_, _%_}
-use mathlib.Core.Path.{_≡_, refl, sym, _∙_}
-use mathlib.Core.List.{List, [], _∷_}
+use Prim.Native.Nat.{ℕ, _+_, _*_, _<_, _/_}
+use mathlib.Core.Path.{_≡_}
 use mathlib.Core.Option.{Option, none, some}
 use mathlib.Core.Bool.{Bool, true, false}
 use lib.Dec.{eqb}
-use lib.ListN.{length}
 use native.Mathlib.Omega.{arith}
-use Rattle.model.specs.Bytes.{Bytes, Octets, put, paste, from, zeros, digit, putWord, putLong, within}
-use Rattle.model.specs.Names.{Part, part, parts, capital, capitals, properName, properPath}
-use Rattle.model.specs.Map.{taken, lowest}
-use Rattle.model.specs.Directory.{Sort, inactive, directory, improper, file, sort, at, volume, key, used, access, blockOf, slotOf, slotSize, slotsInBlock, mapBlock, kids, vacant}
-use Rattle.model.specs.Calls.{total, target, home, spot, lastPart, stampBytes, nameField, backedUp}
+use Rattle.model.specs.Bytes.{Bytes, Octets, put, paste, zeros}
+use Rattle.model.specs.Names.{Part, part, parts}
+use Rattle.model.specs.Map.{taken}
+use Rattle.model.specs.Directory.{Sort, inactive, directory, improper, file, sort, at, volume, key, access, mapBlock, kids, vacant}
+use Rattle.model.specs.Calls.{total, target, home, lastPart, stampBytes, nameField, backedUp}
 use Rattle.model.specs.Format.{headerBytes}
 use Rattle.model.specs.Info.{infoSet, setInfo}
 use Rattle.model.specs.Rename.{named, headerNamed, renamed, renameNumber, rename}
@@ -69,9 +67,9 @@ unfolding renamed
 renamed-octets v s q j o p h = go (eqb s volume)
   where
     go : (b : Bool) → Octets (elim b [
-          | true ↦ named v (at volume) q j
-          | false ↦ put (headerNamed (sort v s) (named v (at s) q j) (key v s) q j) (at s + 0x1E) (backedUp (access v s))
-        ])
+      | true ↦ named v (at volume) q j
+      | false ↦ put (headerNamed (sort v s) (named v (at s) q j) (key v s) q j) (at s + 0x1E) (backedUp (access v s))
+    ])
     go true = named-octets v (at volume) q j o p h
     go false = octets-put _ _ _ (header-named (sort v s) _ (key v s) q j (named-octets v (at s) q j o p h) p h) (backed-octet (access v s) (o (at s + 0x1E)))
 
@@ -80,10 +78,10 @@ unfolding rename renameNumber
 rename-octets len v p k q j o h =
     settled _ _ v _ _ Octets o
     (λ e.
-      let r₁ = first-zero _ _ e (λ z. omega arith) in
-      let r₂ = first-zero _ _ (r₁ .1) (λ z. omega arith) in
-      let r₃ = first-zero _ _ (r₂ .1) (λ z. omega arith) in
-      renamed-octets v _ q j o h (name-size q 0 j (and-right _ _ (not-false _ (r₃ .0)))))
+    let r₁ = first-zero _ _ e (λ z. omega arith) in
+    let r₂ = first-zero _ _ (r₁ .1) (λ z. omega arith) in
+    let r₃ = first-zero _ _ (r₂ .1) (λ z. omega arith) in
+    renamed-octets v _ q j o h (name-size q 0 j (and-right _ _ (not-false _ (r₃ .0)))))
 
 -- create
 module _ (p : Bytes) (x : Part) (w : Wanted) (path : Octets p) (kind : w .kind < 16) (typed : w .ftype < 256) (short : x .size < 16) where
@@ -137,19 +135,19 @@ unfolding create createNumber
 create-octets len v p k w o path typed S =
     settled _ _ v _ _ Octets o
     (λ e.
-      let facts = sound-facts (total len) v S in
-      let r₁ = first-zero _ _ e (λ z. omega arith) in
-      let r₂ = first-zero _ _ (r₁ .1) (λ z. omega arith) in
-      let r₃ = first-zero _ _ (r₂ .1) (λ z. omega arith) in
-      let r₄ = first-zero _ _ (r₃ .1) (λ z. omega arith) in
-      let r₅ = first-zero _ _ (r₄ .1) (λ z. omega arith) in
-      let r₆ = first-zero _ _ (r₅ .1) (λ z. omega arith) in
-      let r₇ = first-zero _ _ (r₆ .1) (λ z. omega arith) in
-      let r₈ = first-zero _ _ (r₇ .1) (λ z. omega arith) in
-      let O = open-led (target-led facts p k) (r₆ .0) (r₇ .0) (r₈ .0) in
-      created-octets p (lastPart (parts p k)) w path (low (wants w (not-false _ (r₄ .0)) (r₅ .0))) typed
-      (name-size p _ _ (path-last p k (not-false _ (r₃ .0)) (omega (arith, O .depth))))
-      (mapBlock v) (total len) v (home (target v p k)) o)
+    let facts = sound-facts (total len) v S in
+    let r₁ = first-zero _ _ e (λ z. omega arith) in
+    let r₂ = first-zero _ _ (r₁ .1) (λ z. omega arith) in
+    let r₃ = first-zero _ _ (r₂ .1) (λ z. omega arith) in
+    let r₄ = first-zero _ _ (r₃ .1) (λ z. omega arith) in
+    let r₅ = first-zero _ _ (r₄ .1) (λ z. omega arith) in
+    let r₆ = first-zero _ _ (r₅ .1) (λ z. omega arith) in
+    let r₇ = first-zero _ _ (r₆ .1) (λ z. omega arith) in
+    let r₈ = first-zero _ _ (r₇ .1) (λ z. omega arith) in
+    let O = open-led (target-led facts p k) (r₆ .0) (r₇ .0) (r₈ .0) in
+    created-octets p (lastPart (parts p k)) w path (low (wants w (not-false _ (r₄ .0)) (r₅ .0))) typed
+    (name-size p _ _ (path-last p k (not-false _ (r₃ .0)) (omega (arith, O .depth))))
+    (mapBlock v) (total len) v (home (target v p k)) o)
   where
     low : Wants w → w .kind < 16
     low (want-file e f) = omega arith

@@ -1,25 +1,25 @@
 -- A change of one data file: of its blocks, and in its entry of kind, key, blocks used, EOF, access and stamps. Write and set EOF are such changes.
-use Prim.Native.Nat.{ℕ, _+_, _-_, _*_, _≤_, _<_, _/_}
-use mathlib.Core.Path.{_≡_, refl, sym, ap, _∙_}
-use mathlib.Core.List.{List, [], _∷_}
-use mathlib.Core.Bool.{Bool, true, false}
+use Prim.Native.Nat.{ℕ, _+_, _*_, _≤_, _<_}
+use mathlib.Core.Path.{_≡_, refl, sym, _∙_}
+use mathlib.Core.List.{[]}
+use mathlib.Core.Bool.{true}
 use lib.ListN.{length}
 use native.Mathlib.Omega.{arith}
 use native.Mathlib.Nat.{add-assoc}
-use Rattle.model.specs.Bytes.{Bytes, sum, count, ne, unless}
-use Rattle.model.specs.Names.{nameSize, capitalName, alike}
+use Rattle.model.specs.Bytes.{Bytes, count, unless}
+use Rattle.model.specs.Names.{capitalName, alike}
 use Rattle.model.specs.Map.{free, restClear}
-use Rattle.model.specs.Directory.{Sort, directory, file, sort, isActive, live, at, mapPlace, activeCount, ftype, key, used, eof, directoryKey, kids}
+use Rattle.model.specs.Directory.{directory, file, sort, isActive, at, mapPlace, activeCount, ftype, key, used, eof, directoryKey, kids}
 use Rattle.model.specs.File.{nodes, heightFor, span, blocks}
-use Rattle.model.specs.Sound.{outside, late, twins, entryFaults, fileFaults, faultsOf, faults}
+use Rattle.model.specs.Sound.{outside, late, twins, fileFaults, faultsOf, faults}
 use Rattle.model.proofs.ByteLaws.{word-same}
 use Rattle.model.proofs.BitLaws.{is-yes, is-no}
 use Rattle.model.proofs.SumLaws.{count-none}
 use Rattle.laws.proofs.Frame.{Spelled, named-spelled, capitalName-spelled, alike-spelled}
 use Rattle.laws.proofs.Sound.{mine, Sound}
 use Rattle.laws.proofs.Keep.{field-at, ftype-at}
-use Rattle.laws.proofs.Facts.{own-mine, mine-apart, kid-once, directory-key, seen-directory, seen-file, kid-right}
-use Rattle.laws.proofs.One.{Place, Touch, in-slot, in-file, Step, Change, Others, leaf, file-directory, slot-head, head-mine, one-directory, one-entry, one-sound, one-others}
+use Rattle.laws.proofs.Facts.{mine-apart, kid-once, directory-key, seen-directory, seen-file, kid-right}
+use Rattle.laws.proofs.One.{Place, in-slot, in-file, Step, Change, Others, leaf, file-directory, slot-head, head-mine, one-directory, one-entry, one-sound, one-others}
 use Rattle.laws.proofs.Spelling.{alike-sym, twins-two, twins-change}
 
 pub record Refiles (n : ℕ) (v v′ : Bytes) (a d h h′ : ℕ) : Type 0 where
@@ -29,7 +29,7 @@ pub record Refiles (n : ℕ) (v v′ : Bytes) (a d h h′ : ℕ) : Type 0 where
   pub new : sort v′ a ≡ file h′
   -- the bytes of blocks that are owned, but of a's own blocks and of its slot
   pub out : (b j : ℕ) → 1 ≤ mine v b → j < 512 → (1 ≤ count b (blocks v a) → ⊥) → (at a ≤ b * 512 + j → b * 512 + j < at a + 39 → ⊥)
-    → v′ (b * 512 + j) ≡ v (b * 512 + j)
+      → v′ (b * 512 + j) ≡ v (b * 512 + j)
   -- name, type and the directory's key stay in the entry
   pub spelled : Spelled v v′ (at a)
   pub stays : (o : ℕ) → 16 ≤ o → o < 39 → (17 ≤ o → o < 37 → ⊥) → v′ (at a + o) ≡ v (at a + o)
@@ -61,9 +61,9 @@ module _ {n : ℕ} {v v′ : Bytes} {a d h h′ : ℕ} (R : Refiles n v v′ a d
   refile-count =
       let k = directory-key S d (P .home) (P .holds) in
       let one : (j : ℕ) → 37 ≤ j → j < 39 → v′ (key v d * 512 + j) ≡ v (key v d * 512 + j) =
-        λ j p q. R .out (key v d) j (head-mine S P) (omega arith)
-        (λ c. flat (rw (mine-apart S a d (key v d) (P .seen) (P .home) c k) (P .holds)))
-        (slot-head S P d j (P .home) (P .holds) (omega arith) (omega arith)) in
+      λ j p q. R .out (key v d) j (head-mine S P) (omega arith)
+      (λ c. flat (rw (mine-apart S a d (key v d) (P .seen) (P .home) c k) (P .holds)))
+      (slot-head S P d j (P .home) (P .holds) (omega arith) (omega arith)) in
       word-same v′ v (key v d * 512 + 0x25) (key v d * 512 + 0x25) (one 37 (omega arith) (omega arith))
       (rw (add-assoc (key v d * 512) 37 1) (one 38 (omega arith) (omega arith)))
 
@@ -84,15 +84,16 @@ module _ {n : ℕ} {v v′ : Bytes} {a d h h′ : ℕ} (R : Refiles n v v′ a d
   unfolding faultsOf fileFaults
   refile-faults m =
       rw new
-      (omega
-      (arith,
+      (omega (
+        arith,
         R .ended,
         R .inside,
         name,
         is-yes (directoryKey v′ a) (key v′ d) refile-up,
         is-no (ftype v′ a) 0x0F (λ e. seen-file S a h (P .seen) old .typed (sym refile-type ∙ e)),
         is-yes h′ (heightFor (eof v′ a)) (R .tall),
-        is-yes (used v′ a) (length (blocks v′ a)) (R .counted)))
+        is-yes (used v′ a) (length (blocks v′ a)) (R .counted),
+      ))
     where
       name : unless (capitalName v′ (at a)) ≡ 0
       name = rw (capitalName-spelled v v′ (at a) (R .spelled), seen-file S a h (P .seen) old .name) refl
@@ -114,10 +115,11 @@ module _ {n : ℕ} {v v′ : Bytes} {a d h h′ : ℕ} (R : Refiles n v v′ a d
 
       two : (t : ℕ) → 1 ≤ count t (kids v d) → (t ≡ a → ⊥) → isActive (sort v t) ≡ true → alike v (at a) (at t) ≡ true → ⊥
       two t c k e f =
-          omega
-          (arith,
+          omega (
+            arith,
             seen-directory S d (P .home) (P .holds) .unlike,
-            twins-two v t a (kids v d) k c (P .inside) e (rw old refl) (alike-sym v (at a) (at t) f) f)
+            twins-two v t a (kids v d) k c (P .inside) e (rw old refl) (alike-sym v (at a) (at t) f) f,
+          )
 
   refile-change : Change n v v′ a d 0 [] [] []
   refile-change =

@@ -1,6 +1,6 @@
 -- What holds of the image as it was, and of the new one where a call is not refused, holds of what the call leaves.
 use Prim.Native.Nat.{ℕ}
-use mathlib.Core.Path.{_≡_, refl, sym, _∙_}
+use mathlib.Core.Path.{_≡_, refl, _∙_}
 use Rattle.model.specs.Bytes.{Bytes}
 use Rattle.model.specs.Refusals.{settle}
 use Rattle.model.proofs.ByteLaws.{at-or-off}
