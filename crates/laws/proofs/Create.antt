@@ -1,30 +1,30 @@
 -- Create of a file or of a directory in the inactive slot a of the directory d, with the free block z.
-use Prim.Native.Nat.{ℕ, _+_, _-_, _*_, _≤_, _<_, _/_, _%_, max}
+use Prim.Native.Nat.{ℕ, _+_, _-_, _*_, _≤_, _<_, _/_, _%_}
 use mathlib.Core.Path.{_≡_, refl, sym, ap, _∙_}
-use mathlib.Core.List.{List, [], _∷_}
-use mathlib.Core.Bool.{Bool, true, false, false≢true}
+use mathlib.Core.List.{[], _∷_}
+use mathlib.Core.Bool.{Bool, true, false}
 use lib.Dec.{leb, eqb}
-use lib.ListN.{drop, length}
+use lib.ListN.{length}
 use native.Mathlib.Omega.{arith}
 use native.Mathlib.Nat.{add-zero, add-assoc}
-use borrow.Author.Tests.{eq-eqb, ne-eqb, lt-leb}
-use Rattle.model.specs.Bytes.{Bytes, Octets, sum, count, is, ne, unless, one-if, put, paste, putWord, word, long}
-use Rattle.model.specs.Names.{Part, properName, sameName, capitalName, alike}
-use Rattle.model.specs.Map.{mapBlocks, mapAt, free, taken}
+use borrow.Author.Tests.{eq-eqb, lt-leb}
+use Rattle.model.specs.Bytes.{Bytes, Octets, sum, count, is, ne, unless, one-if, paste, putWord, word}
+use Rattle.model.specs.Names.{Part, properName, sameName, capitalName}
+use Rattle.model.specs.Map.{mapAt, free, taken}
 use Rattle.model.specs.Kinds.{kindFor}
-use Rattle.model.specs.Directory.{Sort, inactive, directory, improper, file, sortOf, sort, isActive, live, at, blockOf, slotOf, slotSize, slotsInBlock, directoryType, volume, mapPlace, previous, next, activeCount, headerKind, parentBlock, parentSlot, parentSlotSize, headerSlotSize, headerSlots, field, ftype, key, used, eof, directoryKey, chain, slots, slotsBelow, kids, active}
-use Rattle.model.specs.File.{Node, nodes, blocksIn, blocksOf, blocks, heightFor, span, firstBelow}
+use Rattle.model.specs.Directory.{Sort, inactive, directory, file, sortOf, sort, isActive, live, at, blockOf, slotOf, directoryType, mapPlace, previous, next, activeCount, parentBlock, field, ftype, key, used, eof, directoryKey, chain, slotsBelow, kids, active}
+use Rattle.model.specs.File.{nodes, blocksOf, blocks, heightFor, span, firstBelow}
 use Rattle.model.specs.Sound.{links, outside, twins, headerFaults, directoryFaults, fileFaults, faultsOf, faults}
 use Rattle.model.specs.Create.{Wanted, directoryKind, entryBytes, subdirectoryHeader, entered}
-use Rattle.model.proofs.ByteLaws.{put-off, paste-in, paste-at, paste-out, putWord-out, word-putWord, word-same, long-same, octets-put, octets-paste, octets-putWord}
-use Rattle.model.proofs.BitLaws.{is-yes, is-no, is-both, mapAt-in, mapAt-off, taken-in, taken-out, taken-free, taken-octets, rest-taken, MapSame, same-free, same-rest}
+use Rattle.model.proofs.ByteLaws.{paste-in, paste-at, paste-out, putWord-out, word-putWord, word-same, long-same}
+use Rattle.model.proofs.BitLaws.{is-yes, is-no, is-both, mapAt-in, mapAt-off, taken-in, taken-out, taken-free, rest-taken, MapSame, same-free, same-rest}
 use Rattle.model.proofs.SumLaws.{sum-zero, count-none}
 use Rattle.laws.proofs.Frame.{at-block, at-place, Named, slots-one}
-use Rattle.laws.proofs.Sound.{mine, Sound}
-use Rattle.laws.proofs.Keep.{sort-at, field-at, eof-at, ftype-at, top-at, directory-kids}
+use Rattle.laws.proofs.Sound.{Sound}
+use Rattle.laws.proofs.Keep.{sort-at, field-at, eof-at, ftype-at, top-at}
 use Rattle.laws.proofs.Facts.{free-mine, free-map, mine-in, mine-off, kid-once, seen-directory}
 use Rattle.laws.proofs.Most.{directory-most}
-use Rattle.laws.proofs.One.{Place, Touch, in-slot, in-count, Apart, Step, Others, Change, bottom, leaf, file-directory, inactive-directory, off-blocks, slot-mine, head-mine, slot-map, slot-head, one-directory, one-entry, one-sound, one-others}
+use Rattle.laws.proofs.One.{Place, in-slot, in-count, Apart, Step, Others, Change, bottom, leaf, inactive-directory, off-blocks, slot-mine, head-mine, slot-map, slot-head, one-directory, one-entry, one-sound, one-others}
 use Rattle.laws.proofs.Spelling.{Bears, bears-same, bears-capital, bears-alike, alike-bears, alike-back, bears-named, stored, twins-change, twins-off}
 use Rattle.laws.proofs.Lookup.{name-size}
 use Rattle.laws.proofs.Fresh.{newSize, entry-name, entry-type, entry-key, entry-used, entry-eof, entry-up, header-name, header-size, header-slots, header-count, header-block, header-slot, header-parent}
@@ -83,9 +83,9 @@ module _ {n : ℕ} {v : Bytes} {a d z : ℕ} {p : Bytes} {x : Part} {w : Wanted}
   made-map i g h =
       made-off i (slot-map S P i g h)
       (λ e f.
-        let o : ℕ = i - key v d * 512 in
-        let r : i ≡ key v d * 512 + o = omega arith in
-        mine-off S (key v d) o (head-mine S P) (omega arith) (rw r at g) (rw r at h))
+      let o : ℕ = i - key v d * 512 in
+      let r : i ≡ key v d * 512 + o = omega arith in
+      mine-off S (key v d) o (head-mine S P) (omega arith) (rw r at g) (rw r at h))
       ∙ body-out i (λ e f. free-map S z zn zf (omega arith) (omega arith))
 
   made-out : Apart v made a d
@@ -147,7 +147,7 @@ module _ {n : ℕ} {v : Bytes} {a d z : ℕ} {p : Bytes} {x : Part} {w : Wanted}
   made-count =
       let k : ℕ = key v d * 512 + 0x25 in
       let off : (j : ℕ) → 37 ≤ j → j < 39 → at a ≤ key v d * 512 + j → key v d * 512 + j < at a + 39 → ⊥ =
-        λ j g h. slot-head S P d j (P .home) (P .holds) (omega arith) (omega arith) in
+      λ j g h. slot-head S P d j (P .home) (P .holds) (omega arith) (omega arith) in
       word-same made (putWord body k (activeCount v (key v d) + 1)) k k
       (paste-out _ (at a) 39 bytes k (off 37 (omega arith) (omega arith)))
       (paste-out _ (at a) 39 bytes (k + 1) (λ e f. off 38 (omega arith) (omega arith) (omega arith) (omega arith)))
@@ -177,8 +177,8 @@ module _ {n : ℕ} {v : Bytes} {a d z : ℕ} {p : Bytes} {x : Part} {w : Wanted}
     head-bears =
         stored made (z * 512 + 4) p x 0xE short
         (λ i l.
-          let e : 4 + i - 4 ≡ i = omega arith in
-          rw (add-assoc (z * 512) 4 i) (made-head (4 + i) (omega arith) (omega arith)) ∙ ap head e ∙ header-name p x (w .stamp) a i l)
+        let e : 4 + i - 4 ≡ i = omega arith in
+        rw (add-assoc (z * 512) 4 i) (made-head (4 + i) (omega arith) (omega arith)) ∙ ap head e ∙ header-name p x (w .stamp) a i l)
 
     made-slot : (s : ℕ) → z * 13 < s → s < z * 13 + 13 → sort made s ≡ inactive
     unfolding sortOf
@@ -190,19 +190,21 @@ module _ {n : ℕ} {v : Bytes} {a d z : ℕ} {p : Bytes} {x : Part} {w : Wanted}
     made-links : (previous made z ≡ 0) × (next made z ≡ 0)
     unfolding word
     made-links =
-        let zero : (j : ℕ) → j < 4 → made (z * 512 + j) ≡ 0 = λ j l. made-zero j (omega arith) (λ g h. omega arith) in
-        (rw (rw add-zero at (zero 0 (omega arith)), zero 1 (omega arith)) refl,
-          rw (add-assoc (z * 512) 2 1, zero 2 (omega arith), zero 3 (omega arith)) refl)
+        let zero : (j : ℕ) → j < 4 → made (z * 512 + j) ≡ 0 = λ j l. made-zero j (omega arith) (λ g h. omega arith) in (
+          rw (rw add-zero at (zero 0 (omega arith)), zero 1 (omega arith)) refl,
+          rw (add-assoc (z * 512) 2 1, zero 2 (omega arith), zero 3 (omega arith)) refl,
+        )
 
     made-none : activeCount made z ≡ 0
     unfolding word
     made-none =
-        rw
-        (add-assoc (z * 512) 37 1,
+        rw (
+          add-assoc (z * 512) 37 1,
           made-head 37 (omega arith) (omega arith),
           made-head 38 (omega arith) (omega arith),
           header-count p x (w .stamp) a short 0x21 (omega arith) (omega arith),
-          header-count p x (w .stamp) a short 0x22 (omega arith) (omega arith))
+          header-count p x (w .stamp) a short 0x22 (omega arith) (omega arith),
+        )
         refl
 
     made-parent : parentBlock made z ≡ blockOf a
@@ -214,8 +216,8 @@ module _ {n : ℕ} {v : Bytes} {a d z : ℕ} {p : Bytes} {x : Part} {w : Wanted}
     made-header : headerFaults made a z ≡ 0
     unfolding headerFaults
     made-header =
-        rw
-        (made-parent,
+        rw (
+          made-parent,
           head-bears .1,
           bears-alike made (z * 512 + 4) p x (at a) (head-bears .0) (made-bears .0),
           made-head 0x29 (omega arith) (omega arith),
@@ -225,7 +227,8 @@ module _ {n : ℕ} {v : Bytes} {a d z : ℕ} {p : Bytes} {x : Part} {w : Wanted}
           made-head 0x24 (omega arith) (omega arith),
           header-slots p x (w .stamp) a,
           made-head 0x2A (omega arith) (omega arith),
-          header-parent p x (w .stamp) a)
+          header-parent p x (w .stamp) a,
+        )
         (omega (arith, is-yes (blockOf a) (blockOf a) refl, is-yes (slotOf a) (slotOf a) refl))
 
   -- what a owns, and the slots below it
@@ -282,14 +285,15 @@ module _ {n : ℕ} {v : Bytes} {a d z : ℕ} {p : Bytes} {x : Part} {w : Wanted}
     directory-faults e f g =
         let one : eof made a ≡ 512 = made-eof ∙ rw e refl in
         rw (top-at made a (P .proper), made-key, made-used, one, made-type ∙ f)
-        (omega
-        (arith,
+        (omega (
+          arith,
           made-outside,
           made-twins,
           made-header e,
           is-yes (previous made z) 0 (made-links e .0),
           is-yes (next made z) 0 (made-links e .1),
-          is-yes (activeCount made z) (active made (kids made a)) (made-none e ∙ sym made-active)))
+          is-yes (activeCount made z) (active made (kids made a)) (made-none e ∙ sym made-active),
+        ))
 
     fresh-faults : {K : Sort} {t : ℕ} → sort made a ≡ K → Fresh v w a K t → faultsOf K n made m d a ≤ is m 0 * t
     unfolding faultsOf
@@ -310,12 +314,12 @@ module _ {n : ℕ} {v : Bytes} {a d z : ℕ} {p : Bytes} {x : Part} {w : Wanted}
   made-unlike : twins made (kids v d) ≡ 0
   made-unlike =
       let kept : (s : ℕ) → 1 ≤ count s (kids v d) → (s ≡ a → ⊥) → (sort made s ≡ sort v s) × Named v made (at s) =
-        λ s c k. one-entry made-step d s (P .home) c k in
+      λ s c k. one-entry made-step d s (P .home) c k in
       let other : (s : ℕ) → 1 ≤ count s (kids v d) → (s ≡ a → ⊥) → isActive (sort v s) ≡ true → Bears made (at s) p x → ⊥ =
-        λ s c k e B. lacks s c e (bears-same v (at s) p x (bears-named v made (at s) p x short (kept s c k .1) B)) in
+      λ s c k e B. lacks s c e (bears-same v (at s) p x (bears-named v made (at s) p x short (kept s c k .1) B)) in
       twins-change v made a (kids v d) (omega (arith, kid-once S d a (P .home) (P .inside))) kept
       (λ s c k _ e.
-        (λ f. other s c k e (alike-bears made (at a) p x (at s) f (made-bears .0)), λ f. other s c k e (alike-back made (at a) p x (at s) f (made-bears .0))))
+      (λ f. other s c k e (alike-bears made (at a) p x (at s) f (made-bears .0)), λ f. other s c k e (alike-back made (at a) p x (at s) f (made-bears .0))))
       (seen-directory S d (P .home) (P .holds) .unlike)
 
   made-free : (b : ℕ) → b < n → free mapPlace made b + is z b ≡ free mapPlace v b

@@ -1,30 +1,28 @@
 -- Destroy of a file or of an empty directory keeps soundness, and every other file as it was.
-use Prim.Native.Nat.{ℕ, _+_, _-_, _*_, _≤_, _<_, _/_, _%_}
-use mathlib.Core.Path.{_≡_, refl, sym, ap, _∙_}
+use Prim.Native.Nat.{ℕ, _+_, _-_, _*_, _≤_, _<_}
+use mathlib.Core.Path.{_≡_, refl, sym, _∙_}
 use mathlib.Core.List.{List, [], _∷_}
 use mathlib.Core.Bool.{Bool, true, false, not, false≢true}
 use lib.Dec.{ltb, eqb}
 use native.Mathlib.Omega.{arith}
-use native.Mathlib.Nat.{add-zero}
 use borrow.Author.Tests.{eqb-true, eq-eqb, ltb-true, ltb-false}
-use Rattle.model.specs.Bytes.{Bytes, Octets, sum, count, is, put, putWord, word, _and_}
-use Rattle.model.specs.Names.{parts}
+use Rattle.model.specs.Bytes.{Bytes, Octets, sum, count, is, _and_}
 use Rattle.model.specs.Map.{mapBlocks, mapAt, free, given, restClear}
-use Rattle.model.specs.Directory.{Sort, inactive, directory, improper, file, sortOf, sort, isActive, isDirectory, live, at, volume, mapPlace, mapBlock, activeCount, key, access, kids, active}
+use Rattle.model.specs.Directory.{Sort, inactive, directory, improper, file, sortOf, sort, isActive, isDirectory, live, at, volume, mapPlace, activeCount, key, kids, active}
 use Rattle.model.specs.File.{blocks}
-use Rattle.model.specs.Calls.{total, target, spot, home, allows, destroyBit, givenAll}
+use Rattle.model.specs.Calls.{total, target, spot, home, givenAll}
 use Rattle.model.specs.Destroy.{destroyed, mayDestroy, destroyNumber, destroy}
 use Rattle.model.specs.Sound.{sound, faultsOf}
 use Rattle.model.proofs.ByteLaws.{put-at, put-off, putWord-out, word-put-off, word-putWord, word-bound, octets-put, octets-putWord}
 use Rattle.model.proofs.BitLaws.{is-both, free-most, mapAt-in, given-out, given-free, given-octets, rest-given, MapSame, same-free, same-rest}
 use Rattle.model.proofs.SumLaws.{is-self, sum-mem, count-none}
 use Rattle.laws.proofs.Total.{total-one}
-use Rattle.laws.proofs.Sound.{and-left, and-right, deep, top, mine, Sound, sound-facts, facts-sound}
+use Rattle.laws.proofs.Sound.{and-left, and-right, deep, top, Sound, sound-facts, facts-sound}
 use Rattle.laws.proofs.Keep.{sort-at}
 use Rattle.laws.proofs.Facts.{own-mine, mine-in, mine-once, mine-off, kid-once, seen-directory}
-use Rattle.laws.proofs.One.{Place, Touch, in-slot, in-count, Apart, Step, Others, Change, leaf, inactive-directory, off-blocks, slot-map, slot-head, head-mine, one-entry, one-sound, one-others}
+use Rattle.laws.proofs.One.{Place, in-slot, in-count, Apart, Step, Others, Change, leaf, inactive-directory, off-blocks, slot-map, slot-head, head-mine, one-entry, one-sound, one-others}
 use Rattle.laws.proofs.Spelling.{twins-change}
-use Rattle.laws.proofs.Lookup.{first-zero, not-false, Entry, entry-led, target-led}
+use Rattle.laws.proofs.Lookup.{first-zero, not-false, entry-led, target-led}
 use Rattle.laws.proofs.Settled.{settled, others-self}
 
 -- Blocks given back.
@@ -45,7 +43,7 @@ all-free m v [] o f c = omega arith
 all-free m v (b ∷ bs) o f c =
     let none : free m v b ≡ 0 = omega (arith, f b, is-self b) in
     let one : (c : ℕ) → free m (given m v b) c ≡ free m v c + is c b = λ c.
-      given-free m v b c o ∙ rw none (omega (arith, is-both b c c b sym sym)) in
+    given-free m v b c o ∙ rw none (omega (arith, is-both b c c b sym sym)) in
     omega (arith, all-free m (given m v b) bs (given-octets m v b o) (λ c. omega (arith, f c, one c)) c, one c)
 
 pub all-rest : (m n : ℕ) (v : Bytes) (bs : List ℕ) → Octets v → ((c : ℕ) → 1 ≤ count c bs → c < n) → restClear m v n ≡ true
@@ -94,10 +92,11 @@ module _ {n : ℕ} {v : Bytes} {a d : ℕ} (D : Destroys n v a d) where
     where
       go : (c : Bool) → ltb 0 (count b (blocks v a)) ≡ c → free mapPlace v b + count b (blocks v a) ≤ 1
       go true e =
-          omega
-          (arith,
+          omega (
+            arith,
             mine-once S b (own-mine S a b (P .seen) (ltb-true 0 (count b (blocks v a)) e)),
-            total-one (kids v) (λ s. count b (blocks v s)) a deep volume top (P .seen))
+            total-one (kids v) (λ s. count b (blocks v s)) a deep volume top (P .seen),
+          )
       go false e = omega (arith, ltb-false 0 (count b (blocks v a)) e, free-most mapPlace v b)
 
   count-map : (i j : ℕ) → j < 512 → i ≡ key v d * 512 + j → mapPlace * 512 ≤ i → i < mapPlace * 512 + mapBlocks n * 512 → ⊥
@@ -148,14 +147,15 @@ module _ {n : ℕ} {v : Bytes} {a d : ℕ} (D : Destroys n v a d) where
         entry = λ m. rw gone-sort (unfold faultsOf in omega arith);
         counted = rw (gone-sort, gone-count, alive) (omega (arith, gone-active));
         unlike = twins-change v gone a (kids v d) (omega (arith, kid-once S d a (P .home) (P .inside))) (λ t c k. one-entry gone-step d t (P .home) c k)
-          (λ t c k e f. absurd (false≢true (rw gone-sort at e)))
-          (seen-directory S d (P .home) (P .holds) .unlike);
+            (λ t c k e f. absurd (false≢true (rw gone-sort at e)))
+            (seen-directory S d (P .home) (P .holds) .unlike);
         balance = λ b l.
-          omega
-          (arith,
-            off-blocks gone a b gone-sort,
-            same-free mapPlace n given-back gone gone-map b l,
-            all-free mapPlace v (blocks v a) octets lone b);
+            omega (
+              arith,
+              off-blocks gone a b gone-sort,
+              same-free mapPlace n given-back gone gone-map b l,
+              all-free mapPlace v (blocks v a) octets lone b,
+            );
         rest = same-rest mapPlace n given-back gone gone-map (all-rest mapPlace n v (blocks v a) octets low (S .rest));
       }
 

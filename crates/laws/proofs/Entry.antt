@@ -132,7 +132,7 @@ module _ {n : ℕ} {v : Bytes} {a d h : ℕ} (R : Ready n v a d h) {w : Bytes} {
     (small : e < 16777216) (tall : g ≡ heightFor e) (ends : weigh (tardy (span e)) w g 0 k ≡ 0) where
   open Ready R using (sound as S, spot as P)
 
-  abbrev pub called : Bytes
+  abbrev called : Bytes
   called = noted w a g k e t
 
   low : g ≤ 2

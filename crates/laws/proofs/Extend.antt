@@ -1,29 +1,28 @@
 -- The directory at a gains the free block z at the end of its chain.
 use Prim.Native.Nat.{ℕ, suc, _+_, _-_, _*_, _≤_, _<_, _/_, _%_}
-use mathlib.Core.Path.{_≡_, refl, sym, ap, _∙_}
-use mathlib.Core.List.{List, [], _∷_, _++_, append-nil}
-use mathlib.Core.Bool.{Bool, true, false}
+use mathlib.Core.Path.{_≡_, refl, sym, _∙_}
+use mathlib.Core.List.{[], _∷_, _++_, append-nil}
 use lib.Dec.{leb}
-use lib.ListN.{drop}
 use native.Mathlib.Omega.{arith}
 use native.Mathlib.Nat.{add-zero, add-assoc}
 use borrow.Author.Tests.{lt-leb}
-use Rattle.model.specs.Bytes.{Bytes, Octets, sum, count, is, ne, unless, one-if, word, long, putWord, putLong}
+use Rattle.model.specs.Bytes.{Bytes, Octets, sum, count, is, unless, one-if, word}
 use Rattle.model.specs.Names.{capitalName}
-use Rattle.model.specs.Map.{mapBlocks, mapAt, free, taken}
-use Rattle.model.specs.Directory.{Sort, inactive, directory, file, sortOf, sort, isActive, live, at, volume, mapPlace, directoryType, previous, next, activeCount, field, ftype, key, used, eof, directoryKey, chain, slots, slotsBelow, kids, active}
-use Rattle.model.specs.File.{blocksOf, blocks}
-use Rattle.model.specs.Sound.{links, outside, twins, topFaults, headerFaults, directoryFaults, entryFaults, faultsOf, faults}
+use Rattle.model.specs.Map.{mapAt, free, taken}
+use Rattle.model.specs.Directory.{inactive, directory, sortOf, sort, live, at, volume, mapPlace, directoryType, previous, next, activeCount, field, ftype, key, used, eof, directoryKey, chain, slots, kids, active}
+use Rattle.model.specs.File.{blocks}
+use Rattle.model.specs.Sound.{links, outside, twins, topFaults, directoryFaults, faultsOf, faults}
 use Rattle.model.specs.Create.{lastBlock, gained}
 use Rattle.model.proofs.ByteLaws.{at-or-off, putWord-out, putLong-out, word-same, word-putWord, word-putWord-off, word-putLong-off, long-putLong, octets-putWord, octets-putLong}
 use Rattle.model.proofs.BitLaws.{is-yes, is-no, is-both, mapAt-in, mapAt-off, taken-in, taken-out, taken-free, taken-octets, rest-taken, MapSame, same-free, same-rest}
-use Rattle.model.proofs.SumLaws.{sum-append, sum-zero, count-none}
+use Rattle.model.proofs.SumLaws.{is-eq, sum-append, sum-zero, count-none}
 use Rattle.laws.proofs.Total.{total-one}
-use Rattle.laws.proofs.Frame.{at-link, at-block, at-place, Alike, Named, next-in, slots-more, slots-last, last-in, chain-more, twins-same}
+use Rattle.laws.proofs.Grow.{Way, way-more}
+use Rattle.laws.proofs.Frame.{at-link, at-block, at-place, Named, next-in, slots-more, slots-last, last-in, chain-more, twins-same}
 use Rattle.laws.proofs.Sound.{deep, top, mine, Sound}
-use Rattle.laws.proofs.Keep.{Head, head-late, header-le, badge-same, misnamed-same, sort-named, sort-at, field-at, eof-at, ftype-at, top-at, directory-blocks, directory-kids}
-use Rattle.laws.proofs.Facts.{level-le, free-mine, free-map, free-volume, DirectoryRight, Seen, directory-key, own-mine, mine-in, mine-once, mine-off, seen-directory, kid-right}
-use Rattle.laws.proofs.One.{Place, place, Touch, in-slot, in-link, Apart, Step, Others, Change, slot-mine, head-mine, slot-map, slot-head, inactive-directory, one-apart, one-directory, one-active, one-twins, one-entry, one-inside, one-sound, one-seen, one-others}
+use Rattle.laws.proofs.Keep.{Head, head-late, header-le, badge-same, misnamed-same, sort-named, sort-at, field-at, eof-at, ftype-at, top-at, directory-blocks, directory-kids, kids-same}
+use Rattle.laws.proofs.Facts.{level-le, free-mine, free-map, free-volume, DirectoryRight, Seen, directory-key, own-mine, mine-in, mine-once, mine-off, seen-directory, kid-right, kid-seen, volume-seen, parent-directory}
+use Rattle.laws.proofs.One.{Place, place, in-slot, in-link, Apart, Step, Others, Change, slot-mine, slot-map, slot-head, inactive-directory, one-apart, one-directory, one-active, one-twins, one-entry, one-inside, one-keeps, one-sound, one-seen, one-others}
 use Rattle.laws.proofs.Spelling.{twins-append}
 
 -- y is the last block of the directory a, and z is free
@@ -83,8 +82,8 @@ module _ {n : ℕ} {v : Bytes} {a d y z : ℕ} (E : Extends n v a d y z) where
   grown-map i g h =
       grown-taken i (λ e f. slot-map S P i g h (omega arith) (omega arith))
       (λ e f.
-        let r : i ≡ y * 512 + (i - y * 512) = omega arith in
-        mine-off S y (i - y * 512) (own y y-in) (omega arith) (rw r at g) (rw r at h))
+      let r : i ≡ y * 512 + (i - y * 512) = omega arith in
+      mine-off S y (i - y * 512) (own y y-in) (omega arith) (rw r at g) (rw r at h))
       (λ e f. free-map S z zn zf (omega arith) (omega arith))
 
   grown-link : (b j : ℕ) → 1 ≤ mine v b → j < 4 → (b ≡ y → 2 ≤ j → ⊥) → grown (b * 512 + j) ≡ v (b * 512 + j)
@@ -179,10 +178,11 @@ module _ {n : ℕ} {v : Bytes} {a d y z : ℕ} (E : Extends n v a d y z) where
   grown-chain =
       chain-more v grown z y 0 (key v a) (used v a) (seen-directory S a (P .seen) da .some) ly (rw (directory-blocks v a da) at y-once)
       (λ b h.
-        let m : 1 ≤ mine v b = own b (rw (directory-blocks v a da) h) in
-        (λ k. next-in v grown b (λ j l. grown-link b j m l (λ e g. k e)),
-          word-same grown v (b * 512) (b * 512) (rw add-zero at (grown-link b 0 m (omega arith) (λ e g. omega arith)))
-          (grown-link b 1 m (omega arith) (λ e g. omega arith))))
+      let m : 1 ≤ mine v b = own b (rw (directory-blocks v a da) h) in (
+        λ k. next-in v grown b (λ j l. grown-link b j m l (λ e g. k e)),
+        word-same grown v (b * 512) (b * 512) (rw add-zero at (grown-link b 0 m (omega arith) (λ e g. omega arith)))
+            (grown-link b 1 m (omega arith) (λ e g. omega arith)),
+      ))
       grown-next
       grown-previous
       grown-last
@@ -190,13 +190,13 @@ module _ {n : ℕ} {v : Bytes} {a d y z : ℕ} (E : Extends n v a d y z) where
   grown-blocks : blocks grown a ≡ blocks v a ++ (z ∷ [])
   grown-blocks = directory-blocks grown a grown-sort ∙ rw (grown-key, grown-used, directory-blocks v a da) (grown-chain .0)
 
-  grown-kids : kids grown a ≡ kids v a ++ slots (z ∷ [])
+  pub grown-kids : kids grown a ≡ kids v a ++ slots (z ∷ [])
   grown-kids =
       directory-kids grown a grown-sort
       ∙ rw (grown-key, grown-used, grown-chain .0, directory-kids v a da)
       (slots-more v (key v a) (used v a) (z ∷ []) (seen-directory S a (P .seen) da .some))
 
-  grown-off : (s : ℕ) → 1 ≤ count s (slots (z ∷ [])) → sort grown s ≡ inactive
+  pub grown-off : (s : ℕ) → 1 ≤ count s (slots (z ∷ [])) → sort grown s ≡ inactive
   unfolding sortOf
   grown-off s h =
       let r = slots-last z s h in
@@ -208,10 +208,11 @@ module _ {n : ℕ} {v : Bytes} {a d y z : ℕ} (E : Extends n v a d y z) where
   grown-active : active grown (kids grown a) ≡ active v (kids v a)
   grown-active =
       rw (grown-kids, sum-append (λ s. live (sort grown s)) (kids v a) (slots (z ∷ [])))
-      (omega
-      (arith,
+      (omega (
+        arith,
         one-active grown-step a (P .seen) apart,
-        sum-zero (λ s. live (sort grown s)) (slots (z ∷ [])) (λ s c. rw (grown-off s c) refl)))
+        sum-zero (λ s. live (sort grown s)) (slots (z ∷ [])) (λ s c. rw (grown-off s c) refl),
+      ))
 
   grown-twins : twins grown (kids grown a) ≡ 0
   grown-twins =
@@ -239,19 +240,20 @@ module _ {n : ℕ} {v : Bytes} {a d y z : ℕ} (E : Extends n v a d y z) where
   grown-top : topFaults grown a ≡ 0
   grown-top =
       let head : Head v grown (key v a) = λ j g l _. grown-byte a j (P .seen) da g l in
-      omega
-      (arith,
+      omega (
+        arith,
         seen-directory S a (P .seen) da .topped,
         top-at v a (P .proper),
         rw grown-key at (top-at grown a (P .proper)),
-        header-le v grown a (key v a) (head-late v grown (key v a) head) (omega (arith, badge-same v grown a (key v a) grown-name head)))
+        header-le v grown a (key v a) (head-late v grown (key v a) head) (omega (arith, badge-same v grown a (key v a) grown-name head)),
+      )
 
   grown-faults : (m : ℕ) → faults n grown m d a ≡ is m 0
   unfolding faultsOf directoryFaults
   grown-faults m =
       rw (grown-sort, grown-active, grown-key, grown-used, grown-eof)
-      (omega
-      (arith,
+      (omega (
+        arith,
         R,
         R .linked,
         grown-chain .1,
@@ -265,7 +267,8 @@ module _ {n : ℕ} {v : Bytes} {a d y z : ℕ} (E : Extends n v a d y z) where
         is-yes (ftype grown a) directoryType grown-type,
         is-no (suc (used v a)) 0 (λ e. omega arith),
         is-yes (eof v a + 512) (suc (used v a) * 512) (omega (arith, R .sized)),
-        is-yes (activeCount grown (key v a)) (active v (kids v a)) (grown-count a (P .seen) da ∙ R .counted)))
+        is-yes (activeCount grown (key v a)) (active v (kids v a)) (grown-count a (P .seen) da ∙ R .counted),
+      ))
     where
       R : DirectoryRight n v a
       R = seen-directory S a (P .seen) da
@@ -287,13 +290,14 @@ module _ {n : ℕ} {v : Bytes} {a d y z : ℕ} (E : Extends n v a d y z) where
         counted = rw (grown-count d (P .home) (P .holds), grown-sort, da) refl;
         unlike = twins-same v grown (kids v d) names ∙ seen-directory S d (P .home) (P .holds) .unlike;
         balance = λ b l.
-          rw (grown-blocks, sum-append (is b) (blocks v a) (z ∷ []))
-          (unfold sum in
-          omega
-          (arith,
-            is-both b z z b sym sym,
-            same-free mapPlace n (taken mapPlace v z) grown grown-map b l,
-            rw zf at (taken-free mapPlace v z b octets (mapAt-off mapPlace n z b l (free-map S z zn zf)))));
+            rw (grown-blocks, sum-append (is b) (blocks v a) (z ∷ []))
+            (unfold sum in
+            omega (
+              arith,
+              is-both b z z b sym sym,
+              same-free mapPlace n (taken mapPlace v z) grown grown-map b l,
+              rw zf at (taken-free mapPlace v z b octets (mapAt-off mapPlace n z b l (free-map S z zn zf))),
+            ));
         rest = same-rest mapPlace n (taken mapPlace v z) grown grown-map (rest-taken mapPlace v z n octets zn (S .rest));
       }
     where
@@ -325,7 +329,22 @@ module _ {n : ℕ} {v : Bytes} {a d y z : ℕ} (E : Extends n v a d y z) where
 
   pub grown-free : (b : ℕ) → b < n → free mapPlace grown b + is z b ≡ free mapPlace v b
   grown-free b l =
-      omega
-      (arith,
+      omega (
+        arith,
         same-free mapPlace n (taken mapPlace v z) grown grown-map b l,
-        rw zf at (taken-free mapPlace v z b octets (mapAt-off mapPlace n z b l (free-map S z zn zf))))
+        rw zf at (taken-free mapPlace v z b octets (mapAt-off mapPlace n z b l (free-map S z zn zf))),
+      )
+
+  pub grown-way : (x k : ℕ) → Way (kids v) x top k → Way (kids grown) x top k
+  grown-way x k w = way-more (kids v) (kids grown) (Seen v) stays x w top (λ y c. (top-seen y c, c))
+    where
+      top-seen : (y : ℕ) → 1 ≤ count y top → Seen v y
+      top-seen y c = unfold sum in rw (is-eq y volume (omega arith)) (volume-seen S)
+
+      stays : (q : ℕ) → Seen v q → (y : ℕ) → 1 ≤ count y (kids v q) → Seen v y × (1 ≤ count y (kids grown q))
+      stays q h y c = (
+        kid-seen S q y h (parent-directory v q y c) c,
+        at-or-off q a
+            (λ e. rw (e, grown-kids) (omega (arith, sum-append (is y) (kids v a) (slots (z ∷ [])), rw e at c)))
+            (λ k. rw (kids-same v grown q (one-keeps grown-step q h k)) c),
+      )

@@ -1,5 +1,5 @@
 -- What holds of a sound volume: visited slots lie in owned blocks, no block is owned twice, and every visited entry is right.
-use Prim.Native.Nat.{ℕ, zero, suc, _+_, _-_, _*_, _≤_, _<_, _/_, _%_}
+use Prim.Native.Nat.{ℕ, zero, suc, _+_, _-_, _*_, _≤_, _<_, _/_}
 use mathlib.Core.Path.{_≡_, refl, sym, ap, _∙_}
 use mathlib.Core.List.{List, [], _∷_}
 use mathlib.Core.Bool.{Bool, true, false}
@@ -8,20 +8,20 @@ use lib.ListN.{drop, length}
 use native.Mathlib.Omega.{arith}
 use native.Mathlib.Nat.{mul-le-mul-right}
 use borrow.Author.Tests.{eqb-true, eqb-false, le-leb, ltb-true, ltb-false}
-use Rattle.model.specs.Bytes.{Bytes, sum, count, run, is, one-if, ne, unless}
+use Rattle.model.specs.Bytes.{Bytes, sum, count, is, one-if, unless}
 use Rattle.model.specs.Names.{capitalName}
 use Rattle.model.specs.Map.{mapBlocks, free}
-use Rattle.model.specs.Directory.{Sort, inactive, directory, improper, file, sort, isActive, live, at, directoryType, mapPlace, volume, volumeBlock, activeCount, ftype, key, used, eof, field, directoryKey, next, chain, slots, slotsBelow, kids, active}
-use Rattle.model.specs.File.{Node, nodes, heightFor, span, blocksIn, blocksOf, blocks}
+use Rattle.model.specs.Directory.{Sort, inactive, directory, improper, file, sort, isActive, at, directoryType, mapPlace, volume, volumeBlock, activeCount, ftype, key, used, eof, field, directoryKey, next, chain, slots, slotsBelow, kids, active}
+use Rattle.model.specs.File.{nodes, heightFor, span, blocksOf, blocks}
 use Rattle.model.specs.Walk.{levelMost}
 use Rattle.model.specs.Sound.{links, twins, outside, headerFaults, topFaults, directoryFaults, late, fileFaults, entryFaults, faultsOf, faults}
 use Rattle.model.proofs.BitLaws.{is-yes, is-no, is-most}
-use Rattle.model.proofs.SumLaws.{is-self, is-eq, sum-le, sum-mem, run-has}
-use Rattle.laws.proofs.Total.{total, reach, reach-down, weight-le, total-le, total-add, total-scale, reach-le, total-one, total-two}
+use Rattle.model.proofs.SumLaws.{is-eq, sum-le, sum-mem, run-has}
+use Rattle.laws.proofs.Total.{reach, reach-down, weight-le, total-le, total-add, total-scale, reach-le, total-one, total-two}
 use Rattle.laws.proofs.Grow.{parents}
 use Rattle.laws.proofs.Frame.{slots-le, slots-head, chain-first}
 use Rattle.laws.proofs.Sound.{deep, top, sums, fixed, mine, Sound}
-use Rattle.laws.proofs.Keep.{directory-blocks, directory-kids, file-blocks, top-at}
+use Rattle.laws.proofs.Keep.{directory-blocks, top-at}
 
 -- A slot on the walk.
 abbrev pub Seen : Bytes → ℕ → Type 0
@@ -72,6 +72,15 @@ kid-block v x d = go (sort v d)
         all : (bs : List ℕ) → count x (drop 1 (slots bs)) ≤ count (x / 13) bs
         all [] = unfold slots sum in omega arith
         all (b ∷ bs) = omega (arith, slots-head x b bs, slots-le x (b ∷ bs))
+
+pub parent-directory : (v : Bytes) (d x : ℕ) → 1 ≤ count x (kids v d) → sort v d ≡ directory
+parent-directory v d x = go (sort v d)
+  where
+    go : (K : Sort) → 1 ≤ count x (slotsBelow K v d) → K ≡ directory
+    go inactive c = absurd (unfold slotsBelow sum in omega arith)
+    go directory c = refl
+    go improper c = absurd (unfold slotsBelow sum in omega arith)
+    go (file h) c = absurd (unfold slotsBelow sum in omega arith)
 
 pub outside-le : (n : ℕ) (v : Bytes) (m q s : ℕ) → outside n (blocks v s) ≤ faults n v m q s
 outside-le n v m q s = go (sort v s) refl
@@ -192,11 +201,12 @@ pub record Inside (n b : ℕ) : Type 0 where
 module _ {n : ℕ} {v : Bytes} (S : Sound n v) where
   seen-inner : (x : ℕ) → Seen v x → innerOf (sort v x) n v x ≡ 0
   seen-inner x h =
-      omega
-      (arith,
+      omega (
+        arith,
         S .right,
         total-one (kids v) (λ s. innerOf (sort v s) n v s) x deep volume top h,
-        weight-le (kids v) (faults n v) (λ _ _ s. innerOf (sort v s) n v s) deep volume top (λ m q s. inner-le (sort v s) n v m q s))
+        weight-le (kids v) (faults n v) (λ _ _ s. innerOf (sort v s) n v s) deep volume top (λ m q s. inner-le (sort v s) n v m q s),
+      )
 
   pub seen-directory : (d : ℕ) → Seen v d → sort v d ≡ directory → DirectoryRight n v d
   seen-directory d h e = directory-right n v d (rw e at (seen-inner d h))
@@ -241,12 +251,13 @@ module _ {n : ℕ} {v : Bytes} (S : Sound n v) where
       go true e = ltb-true b n e
       go false e =
           absurd
-          (omega
-          (arith,
+          (omega (
+            arith,
             S .right,
             weight-le (kids v) (faults n v) (λ _ _ s. count b (blocks v s)) deep volume top
-            (λ m q s.
-              omega (arith, sum-le (is b) (λ c. one-if (leb n c)) (blocks v s) (λ c _. is-outside n b c (ltb-false b n e)), outside-le n v m q s))))
+                (λ m q s.
+                omega (arith, sum-le (is b) (λ c. one-if (leb n c)) (blocks v s) (λ c _. is-outside n b c (ltb-false b n e)), outside-le n v m q s)),
+          ))
 
   pub mine-once : (b : ℕ) → 1 ≤ mine v b → (mine v b ≡ 1) × (count b (fixed n) ≡ 0) × (free mapPlace v b ≡ 0)
   mine-once b h = let o = S .once b (mine-in b h) in (omega arith, omega arith, omega arith)
@@ -289,13 +300,14 @@ module _ {n : ℕ} {v : Bytes} (S : Sound n v) where
   unfolding headOf
   placed-head x d h k e f =
       let one : 1 ≤ headOf (sort v d) (is x (key v d * 13)) = rw e (omega (arith, is-yes x (key v d * 13) f)) in
-      omega
-      (arith,
+      omega (
+        arith,
         mine-once (x / 13) (placed-mine x h),
         total-one (kids v) (λ s. headOf (sort v s) (is x (key v s * 13))) d deep volume top k,
         total-add (kids v) (λ _ _ s. count x (kids v s)) (λ _ _ s. headOf (sort v s) (is x (key v s * 13))) deep volume top,
         total-le (kids v) (kids v) (λ _ _ s. count (x / 13) (blocks v s)) (λ _ _ s. count x (kids v s) + headOf (sort v s) (is x (key v s * 13)))
-        deep volume top (λ m q s r j. (refl, head-le n x v s (seen-inner s r))))
+            deep volume top (λ m q s r j. (refl, head-le n x v s (seen-inner s r))),
+      )
 
   pub placed-proper : (x : ℕ) → Placed v x → x ≡ volume → ⊥
   unfolding field
@@ -347,13 +359,14 @@ module _ {n : ℕ} {v : Bytes} (S : Sound n v) where
   placed-apart x a h k e =
       let c : ℕ = count (x / 13) (blocks v a) in
       let one : 1 * c ≤ reach (kids v) a deep volume top * c = mul-le-mul-right c k in
-      omega
-      (arith,
+      omega (
+        arith,
         mine-once (x / 13) (placed-mine x h),
         total-scale (kids v) (λ _ _ s. is a s) c deep volume top,
         total-add (kids v) (λ _ _ s. count x (kids v s)) (λ _ _ s. is a s * c) deep volume top,
         weight-le (kids v) (λ _ _ s. count (x / 13) (blocks v s)) (λ _ _ s. count x (kids v s) + is a s * c) deep volume top
-        (λ m q s. apart s (eqb a s) refl))
+            (λ m q s. apart s (eqb a s) refl),
+      )
     where
       apart : (s : ℕ) (b : Bool) → eqb a s ≡ b → count x (kids v s) + one-if b * count (x / 13) (blocks v a) ≤ count (x / 13) (blocks v s)
       apart s true f = rw (← eqb-true a s f, e) (unfold sum in omega arith)
@@ -365,15 +378,16 @@ module _ {n : ℕ} {v : Bytes} (S : Sound n v) where
   below w d h e =
       let x : ℕ = sum (w d) (kids v d) in
       let hx : 1 * x ≤ reach (kids v) d deep volume top * x = mul-le-mul-right x h in
-      omega
-      (arith,
+      omega (
+        arith,
         hx,
         parents (kids v) w deep volume top,
         total-scale (kids v) (λ _ _ s. is d s) x deep volume top,
         weight-le (kids v) (λ m q s. (1 - is m 0) * sum (w s) (kids v s) + faults n v m q s * x) (λ _ _ s. is d s * x) deep volume top
-        (λ m q s. go m q s (eqb d s) refl),
+            (λ m q s. go m q s (eqb d s) refl),
         total-add (kids v) (λ m _ s. (1 - is m 0) * sum (w s) (kids v s)) (λ m q s. faults n v m q s * x) deep volume top,
-        rw (S .right) at (total-scale (kids v) (faults n v) x deep volume top))
+        rw (S .right) at (total-scale (kids v) (faults n v) x deep volume top),
+      )
     where
       low : (m q : ℕ) (b : Bool) → one-if b ≤ faults n v m q d
           → sum (w d) (kids v d) ≤ (1 - one-if b) * sum (w d) (kids v d) + faults n v m q d * sum (w d) (kids v d)
@@ -391,12 +405,13 @@ module _ {n : ℕ} {v : Bytes} (S : Sound n v) where
   pub kid-right : (d s : ℕ) → Seen v d → sort v d ≡ directory → 1 ≤ count s (kids v d) → isActive (sort v s) ≡ true → EntryRight v d s
   kid-right d s h e c =
       entry-right n v d s
-      (omega
-      (arith,
+      (omega (
+        arith,
         S .right,
         below (faults n v 1) d h e,
         sum-mem (faults n v 1 d) s (kids v d) c,
-        weight-le (kids v) (faults n v) (λ _ q s. faults n v 1 q s) deep volume top (λ m q s. level-one (sort v s) n v m q s)))
+        weight-le (kids v) (faults n v) (λ _ q s. faults n v 1 q s) deep volume top (λ m q s. level-one (sort v s) n v m q s),
+      ))
 
   -- a free block
   module _ (z : ℕ) (zn : z < n) (zf : free mapPlace v z ≡ 1) where

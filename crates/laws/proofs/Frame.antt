@@ -1,22 +1,22 @@
 -- Where slots and blocks lie, and what chains, trees, names and twins are read from.
-use Prim.Native.Nat.{ℕ, zero, suc, _+_, _-_, _*_, _≤_, _<_, _/_, _%_}
-use mathlib.Core.Path.{_≡_, refl, sym, ap, _∙_}
-use mathlib.Core.List.{List, [], _∷_, _++_, append-assoc, map}
+use Prim.Native.Nat.{ℕ, zero, suc, _+_, _*_, _≤_, _<_, _/_, _%_}
+use mathlib.Core.Path.{_≡_, refl, sym, ap, _∙_, fun-ext}
+use mathlib.Core.List.{List, [], _∷_, _++_, append-assoc}
 use mathlib.Core.Bool.{Bool, true, false}
-use lib.Dec.{leb, ltb, eqb}
+use lib.Dec.{ltb, eqb}
 use lib.ListN.{drop, length}
 use native.Mathlib.Omega.{arith}
 use native.Mathlib.Nat.{add-zero, add-assoc}
-use borrow.Author.Tests.{eqb-true, eqb-false, ltb-true, ltb-false}
-use Rattle.model.specs.Bytes.{Bytes, sum, count, gather, run, is, one-if, word, within, _and_, _or_}
-use Rattle.model.specs.Names.{letter, nameByte, nameBytes, properName, capital, nameSize, capitalName, alike}
-use Rattle.model.specs.Directory.{at, place, blockOf, slotOf, previous, next, chain, slots, Sort, sort, isActive}
-use Rattle.model.specs.File.{Node, node, pointer, limb, nodes, blocksIn}
+use borrow.Author.Tests.{eqb-false, ltb-true, ltb-false}
+use Rattle.model.specs.Bytes.{Bytes, sum, count, gather, run, is, one-if, word}
+use Rattle.model.specs.Names.{nameByte, nameBytes, properName, capital, nameSize, capitalName, alike}
+use Rattle.model.specs.Directory.{at, previous, next, chain, slots, sort, isActive}
+use Rattle.model.specs.File.{Node, node, pointer, limb, nodes, blocksIn, above, dataBlock, fileByte}
 use Rattle.model.specs.Sound.{links, twinsOf, twins}
 use Rattle.model.specs.Create.{lastBlock}
 use Rattle.model.proofs.BitLaws.{is-no}
 use Rattle.model.proofs.ByteLaws.{equal-cong}
-use Rattle.model.proofs.SumLaws.{is-self, sum-append, sum-map, sum-gather, sum-mem, run-low, run-high, run-in, run-most}
+use Rattle.model.proofs.SumLaws.{is-self, sum-append, sum-map, sum-gather, sum-mem, run-low, run-high, run-in, run-most, run-has}
 
 -- Places.
 pub at-inj : (s a o r : ℕ) → o < 39 → r < 39 → at s + o ≡ at a + r → s ≡ a
@@ -172,39 +172,88 @@ pub pointer-in : (v v′ : Bytes) (k i : ℕ) → Alike 512 v v′ k → i < 256
 unfolding pointer
 pointer-in v v′ k i f h = rw (f i (omega arith), add-assoc (k * 512) 256 i, f (256 + i) (omega arith)) refl
 
-pub nodes-same : (v v′ : Bytes) (h q k : ℕ) → ((b : ℕ) → 1 ≤ count b (blocksIn (nodes v h q k)) → Alike 512 v v′ b) → nodes v′ h q k ≡ nodes v h q k
+-- what is below a pointer is in the tree
+pub limb-in : (v : Bytes) (h q k i b : ℕ) → i < 256 → eqb (pointer v k i) 0 ≡ false
+    → 1 ≤ count b (blocksIn (nodes v h (q * 256 + i) (pointer v k i))) → 1 ≤ count b (blocksIn (nodes v (suc h) q k))
 unfolding nodes sum
-nodes-same v v′ zero q k f = refl
-nodes-same v v′ (suc h) q k f =
-    ap (λ ns. node (suc h) q k ∷ ns)
-    (gather-same _ _ (run 0 256) (λ i c.
-      let r = run-in 256 0 i c in
-      one i c (pointer-in v v′ k i (f k (omega (arith, is-self k))) (omega (arith, r .1))) (eqb (pointer v k i) 0) refl
-      (nodes-same v v′ h (q * 256 + i) (pointer v k i))))
+limb-in v h q k i b l z c =
+    omega (
+      arith,
+      holds b (gather t (run 0 256)),
+      sum-gather (λ x. is b (x .block)) t (run 0 256),
+      sum-mem (λ x. sum (λ y. is b (y .block)) (t x)) i (run 0 256) (run-has 256 0 i (omega arith) (omega arith)),
+      holds b (t i),
+      limb-at,
+    )
   where
     t : ℕ → List Node
     t = limb (λ r p. nodes v h r p) v q k
 
-    one : (i : ℕ) → 1 ≤ count i (run 0 256) → pointer v′ k i ≡ pointer v k i → (z : Bool) → eqb (pointer v k i) 0 ≡ z
+    limb-at : count b (blocksIn (t i)) ≡ count b (blocksIn (nodes v h (q * 256 + i) (pointer v k i)))
+    limb-at = unfold limb in rw (z, limb) refl
+
+key-in : (v : Bytes) (h q k : ℕ) → 1 ≤ count k (blocksIn (nodes v h q k))
+unfolding nodes sum
+key-in v zero q k = omega (arith, is-self k)
+key-in v (suc h) q k = omega (arith, is-self k)
+
+pub nodes-same : (v v′ : Bytes) (h q k : ℕ) → ((b : ℕ) → 1 ≤ count b (blocksIn (nodes v h q k)) → Alike 512 v v′ b) → nodes v′ h q k ≡ nodes v h q k
+unfolding nodes
+nodes-same v v′ zero q k f = refl
+nodes-same v v′ (suc h) q k f =
+    ap (λ ns. node (suc h) q k ∷ ns)
+    (gather-same _ _ (run 0 256) (λ i c.
+    let l : i < 256 = omega (arith, run-in 256 0 i c .1) in
+    one i l (pointer-in v v′ k i (f k (key-in v (suc h) q k)) l) (eqb (pointer v k i) 0) refl (nodes-same v v′ h (q * 256 + i) (pointer v k i))))
+  where
+    one : (i : ℕ) → i < 256 → pointer v′ k i ≡ pointer v k i → (z : Bool) → eqb (pointer v k i) 0 ≡ z
         → (((b : ℕ) → 1 ≤ count b (blocksIn (nodes v h (q * 256 + i) (pointer v k i))) → Alike 512 v v′ b)
         → nodes v′ h (q * 256 + i) (pointer v k i) ≡ nodes v h (q * 256 + i) (pointer v k i))
         → limb (λ r p. nodes v′ h r p) v′ q k i ≡ limb (λ r p. nodes v h r p) v q k i
-    one i c e true z g = unfold limb in rw (e, z, limb) refl
-    one i c e false z g = unfold limb in rw (e, z, limb) (rw e (g (λ b d. f b (more b d))))
-      where
-        more : (b : ℕ) → 1 ≤ count b (blocksIn (nodes v h (q * 256 + i) (pointer v k i)))
-            → 1 ≤ count b (blocksIn (node (suc h) q k ∷ gather (limb (λ r p. nodes v h r p) v q k) (run 0 256)))
-        more b d =
-            omega
-            (arith,
-              holds b (gather t (run 0 256)),
-              sum-gather (λ x. is b (x .block)) t (run 0 256),
-              sum-mem (λ x. sum (λ y. is b (y .block)) (t x)) i (run 0 256) c,
-              holds b (t i),
-              limb-at b)
-          where
-            limb-at : (b : ℕ) → count b (blocksIn (t i)) ≡ count b (blocksIn (nodes v h (q * 256 + i) (pointer v k i)))
-            limb-at b = unfold limb in rw (z, limb) refl
+    one i l e true z g = unfold limb in rw (e, z, limb) refl
+    one i l e false z g = unfold limb in rw (e, z, limb) (rw e (g (λ b d. f b (limb-in v h q k i b l z d))))
+
+-- the data block of a file block is in the tree, or there is none
+pub data-in : (v : Bytes) (h q k p : ℕ) → (dataBlock v h k p ≡ 0 → ⊥) → 1 ≤ count (dataBlock v h k p) (blocksIn (nodes v h q k))
+unfolding dataBlock
+data-in v zero q k p n = key-in v 0 q k
+data-in v (suc h) q k p n = go (eqb (pointer v k i) 0) refl (data-in v h (q * 256 + i) (pointer v k i) p) n
+  where
+    i : ℕ
+    i = above h p % 256
+
+    go : (z : Bool) → eqb (pointer v k i) 0 ≡ z
+        → ((dataBlock v h (pointer v k i) p ≡ 0 → ⊥) → 1 ≤ count (dataBlock v h (pointer v k i) p) (blocksIn (nodes v h (q * 256 + i) (pointer v k i))))
+        → (_≡_ {A = ℕ} (elim z [ true ↦ 0 | false ↦ dataBlock v h (pointer v k i) p ]) 0 → ⊥)
+        → 1 ≤ count (elim z [ true ↦ 0 | false ↦ dataBlock v h (pointer v k i) p ]) (blocksIn (nodes v (suc h) q k))
+    go true z g n = absurd (n refl)
+    go false z g n = limb-in v h q k i (dataBlock v h (pointer v k i) p) (omega arith) z (g n)
+
+pub data-same : (v v′ : Bytes) (h q k p : ℕ) → ((b : ℕ) → 1 ≤ count b (blocksIn (nodes v h q k)) → Alike 512 v v′ b) → dataBlock v′ h k p ≡ dataBlock v h k p
+unfolding dataBlock
+data-same v v′ zero q k p f = refl
+data-same v v′ (suc h) q k p f =
+    go (pointer-in v v′ k i (f k (key-in v (suc h) q k)) (omega arith)) (eqb (pointer v k i) 0) refl (data-same v v′ h (q * 256 + i) (pointer v k i) p)
+  where
+    i : ℕ
+    i = above h p % 256
+
+    go : pointer v′ k i ≡ pointer v k i → (z : Bool) → eqb (pointer v k i) 0 ≡ z
+        → (((b : ℕ) → 1 ≤ count b (blocksIn (nodes v h (q * 256 + i) (pointer v k i))) → Alike 512 v v′ b)
+        → dataBlock v′ h (pointer v k i) p ≡ dataBlock v h (pointer v k i) p)
+        → dataBlock v′ (suc h) k p ≡ dataBlock v (suc h) k p
+    go e true z g = rw (e, z, dataBlock) refl
+    go e false z g = rw (e, z, dataBlock) (rw e (g (λ b c. f b (limb-in v h q k i b (omega arith) z c))))
+
+pub fileByte-same : (v v′ : Bytes) (h k : ℕ) → ((b : ℕ) → 1 ≤ count b (blocksIn (nodes v h 0 k)) → Alike 512 v v′ b) → fileByte v′ h k ≡ fileByte v h k
+unfolding fileByte
+fileByte-same v v′ h k f = fun-ext (λ i. go i (dataBlock v′ h k (i / 512)) (data-same v v′ h 0 k (i / 512) f) (eqb (dataBlock v h k (i / 512)) 0) refl)
+  where
+    go : (i d : ℕ) → d ≡ dataBlock v h k (i / 512) → (z : Bool) → eqb (dataBlock v h k (i / 512)) 0 ≡ z
+        → _≡_ {A = ℕ} (elim (eqb d 0) [ true ↦ 0 | false ↦ v′ (d * 512 + i % 512) ])
+        (elim (eqb (dataBlock v h k (i / 512)) 0) [ true ↦ 0 | false ↦ v (dataBlock v h k (i / 512) * 512 + i % 512) ])
+    go i d e true z = rw (e, z) refl
+    go i d e false z = rw (e, z) (rw e (f (dataBlock v h k (i / 512)) (data-in v h 0 k (i / 512) (eqb-false _ 0 z)) (i % 512) (omega arith)))
 
 -- Names: 16 bytes, the size first.
 abbrev pub Named : Bytes → Bytes → ℕ → Type 0
@@ -218,29 +267,42 @@ nameBytes-same v v′ a (suc k) f =
     let r = nameBytes-same v v′ (a + 1) k (λ i l. rw (add-assoc a 1 i) (f (1 + i) (omega arith))) in
     λ i. elim (nameByte (h i)) [ true ↦ r i | false ↦ false ]
 
-pub capitalName-same : (v v′ : Bytes) (a : ℕ) → Named v v′ a → capitalName v′ a ≡ capitalName v a
+-- the same name, whatever the kind beside its size
+abbrev pub Spelled : Bytes → Bytes → ℕ → Type 0
+Spelled v v′ a = (nameSize v′ a ≡ nameSize v a) × ((i : ℕ) → 1 ≤ i → i < 16 → v′ (a + i) ≡ v (a + i))
+
+pub named-spelled : (v v′ : Bytes) (a : ℕ) → Named v v′ a → Spelled v v′ a
+named-spelled v v′ a f = (rw (rw add-zero at (f 0 (omega arith))) refl, λ i g l. f i l)
+
+pub capitalName-spelled : (v v′ : Bytes) (a : ℕ) → Spelled v v′ a → capitalName v′ a ≡ capitalName v a
 unfolding capitalName properName
-capitalName-same v v′ a f =
-    let z : v′ a ≡ v a = rw add-zero at (f 0 (omega arith)) in
+capitalName-spelled v v′ a f =
     let k = v a % 16 in
-    let g : (i : ℕ) → i < k → v′ (a + 1 + i) ≡ v (a + 1 + i) = λ i l. rw (add-assoc a 1 i) (f (1 + i) (omega arith)) in
-    rw
-    (z,
-      f 1 (omega arith),
+    let g : (i : ℕ) → i < k → v′ (a + 1 + i) ≡ v (a + 1 + i) = λ i l. rw (add-assoc a 1 i) (f .1 (1 + i) (omega arith) (omega arith)) in
+    rw (
+      f .0,
+      f .1 1 (omega arith) (omega arith),
       nameBytes-same v v′ (a + 1) k g,
-      equal-cong v′ (a + 1) (λ i. capital (v′ i)) (a + 1) k v (a + 1) (λ i. capital (v i)) (a + 1) g (λ i l. ap capital (g i l)))
+      equal-cong v′ (a + 1) (λ i. capital (v′ i)) (a + 1) k v (a + 1) (λ i. capital (v i)) (a + 1) g (λ i l. ap capital (g i l)),
+    )
     refl
 
-pub alike-same : (v v′ : Bytes) (a b : ℕ) → Named v v′ a → Named v v′ b → alike v′ a b ≡ alike v a b
+pub alike-spelled : (v v′ : Bytes) (a b : ℕ) → Spelled v v′ a → Spelled v v′ b → alike v′ a b ≡ alike v a b
 unfolding alike
-alike-same v v′ a b f g =
-    let z : v′ a ≡ v a = rw add-zero at (f 0 (omega arith)) in
-    let y : v′ b ≡ v b = rw add-zero at (g 0 (omega arith)) in
-    rw
-    (z, y,
+alike-spelled v v′ a b f g =
+    rw (
+      f .0,
+      g .0,
       equal-cong v′ (a + 1) v′ (b + 1) (v a % 16) v (a + 1) v (b + 1)
-      (λ i l. rw (add-assoc a 1 i) (f (1 + i) (omega arith))) (λ i l. rw (add-assoc b 1 i) (g (1 + i) (omega arith))))
+          (λ i l. rw (add-assoc a 1 i) (f .1 (1 + i) (omega arith) (omega arith))) (λ i l. rw (add-assoc b 1 i) (g .1 (1 + i) (omega arith) (omega arith))),
+    )
     refl
+
+pub capitalName-same : (v v′ : Bytes) (a : ℕ) → Named v v′ a → capitalName v′ a ≡ capitalName v a
+capitalName-same v v′ a f = capitalName-spelled v v′ a (named-spelled v v′ a f)
+
+pub alike-same : (v v′ : Bytes) (a b : ℕ) → Named v v′ a → Named v v′ b → alike v′ a b ≡ alike v a b
+alike-same v v′ a b f g = alike-spelled v v′ a b (named-spelled v v′ a f) (named-spelled v v′ b g)
 
 twinsOf-same : (v v′ : Bytes) (s : ℕ) (ss : List ℕ) → Named v v′ (at s)
     → ((t : ℕ) → 1 ≤ count t ss → (sort v′ t ≡ sort v t) × Named v v′ (at t)) → twinsOf v′ s ss ≡ twinsOf v s ss

@@ -1,17 +1,17 @@
 -- The bytes of a new entry and of a new subdirectory's header, field by field.
-use Prim.Native.Nat.{ℕ, _+_, _-_, _*_, _≤_, _<_, _/_, _%_}
-use mathlib.Core.Path.{_≡_, refl, sym, ap, _∙_}
+use Prim.Native.Nat.{ℕ, _≤_, _<_}
+use mathlib.Core.Path.{_≡_, _∙_}
 use mathlib.Core.Bool.{Bool, true, false}
 use lib.Dec.{eqb}
 use native.Mathlib.Omega.{arith}
-use Rattle.model.specs.Bytes.{Bytes, Octets, put, paste, from, zeros, digit, word, long, putWord, putLong}
-use Rattle.model.specs.Names.{Part, capital, capitals}
+use Rattle.model.specs.Bytes.{Bytes, zeros, word, long}
+use Rattle.model.specs.Names.{Part}
 use Rattle.model.specs.Directory.{blockOf, slotOf, slotSize, slotsInBlock}
-use Rattle.model.specs.Calls.{stampBytes, nameField}
+use Rattle.model.specs.Calls.{nameField}
 use Rattle.model.specs.Format.{headerBytes}
 use Rattle.model.specs.Create.{Wanted, directoryKind, entryBytes, subdirectoryHeader}
 use Rattle.model.specs.declared.Stamp.{Stamp}
-use Rattle.model.proofs.ByteLaws.{put-at, put-off, paste-out, paste-before, paste-after, putWord-out, putLong-out, word-putWord, word-putWord-off, word-put-off, word-paste-off, word-putLong-off, long-putLong, long-putWord-off, long-put-off, long-paste-off, octets-put, octets-paste, octets-putWord, octets-putLong, digit-bound}
+use Rattle.model.proofs.ByteLaws.{put-at, put-off, paste-before, paste-after, putWord-out, putLong-out, word-putWord, word-putWord-off, word-put-off, word-paste-off, word-putLong-off, long-putLong, long-putWord-off, long-put-off, long-paste-off}
 
 pub name-rest : (k : ℕ) (p : Bytes) (x : Part) (i : ℕ) → x .size < 16 → 16 ≤ i → nameField k p x i ≡ 0
 unfolding nameField

@@ -140,7 +140,7 @@ module _ {n : ℕ} {w : Bytes} {h k : ℕ} (F : Fit n w (suc h) 0 k) where
     unfolding heir
     heir-full = rw (ne-eqb (pointer w k 0) 0 full, heir) refl
 
-    pub left-kept : (b : ℕ) → Off n b → Alike 512 w (given mapPlace shorn k) b
+    left-kept : (b : ℕ) → Off n b → Alike 512 w (given mapPlace shorn k) b
     left-kept b o j l = given-alike n shorn k (fit-key F) b o j l ∙ shorn-freed .kept b o j l
 
     pub heir-in : (b : ℕ) → 1 ≤ has w h 0 (pointer w k 0) b → Alike 512 w (given mapPlace shorn k) b

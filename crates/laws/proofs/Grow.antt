@@ -1,7 +1,7 @@
 -- Walks where one slot a gains or loses inert slots: the core is the walk without them. And what is met below what is met.
 use Prim.Native.Nat.{ℕ, zero, suc, _+_, _-_, _*_, _≤_}
 use mathlib.Core.Path.{_≡_, refl, sym}
-use mathlib.Core.List.{List, [], _∷_, _++_}
+use mathlib.Core.List.{List, [], _++_}
 use mathlib.Core.Bool.{Bool, true, false}
 use lib.Dec.{eqb}
 use native.Mathlib.Omega.{arith}
@@ -23,7 +23,7 @@ unfolding total sum
 total-nil kids w zero p = refl
 total-nil kids w (suc l) p = refl
 
-total-inert : (kids : ℕ → List ℕ) (w : Weight) (l p : ℕ) (ss : List ℕ)
+pub total-inert : (kids : ℕ → List ℕ) (w : Weight) (l p : ℕ) (ss : List ℕ)
     → ((m s : ℕ) → 1 ≤ count s ss → (kids s ≡ []) × (w m p s ≡ 0)) → total kids w l p ss ≡ 0
 unfolding total
 total-inert kids w zero p ss f = sum-zero _ ss (λ s k. f 0 s k .1)
@@ -49,11 +49,12 @@ core-eq kids core a e w zero p ss f g h = refl
 core-eq kids core a e w (suc l) p ss f g h =
     sum-eq _ _ ss
     (λ s k.
-      let down : (x : ℕ) → is x s + reach core x l s (core s) ≤ reach core x (suc l) p ss = λ x. reach-down core (λ _ _ y. is x y) l p s ss k in
-      omega
-      (arith,
-        core-eq kids core a e w l s (core s) (λ x r. f x (omega (arith, down x))) g h,
-        same s (f s (omega (arith, is-self s, down s))) (eqb s a) refl))
+    let down : (x : ℕ) → is x s + reach core x l s (core s) ≤ reach core x (suc l) p ss = λ x. reach-down core (λ _ _ y. is x y) l p s ss k in
+    omega (
+      arith,
+      core-eq kids core a e w l s (core s) (λ x r. f x (omega (arith, down x))) g h,
+      same s (f s (omega (arith, is-self s, down s))) (eqb s a) refl,
+    ))
   where
     same : (s : ℕ) → ((s ≡ a → ⊥) → kids s ≡ core s) → (b : Bool) → eqb s a ≡ b → total kids w l s (kids s) ≡ total kids w l s (core s)
     same s r true i = rw (eqb-true s a i, g, total-append kids w l a (core a) e) (omega (arith, total-inert kids w l a e h))
@@ -67,12 +68,13 @@ never kids a zero p ss f z = z
 never kids a (suc l) p ss f z =
     sum-zero _ ss
     (λ s k.
-      let down : (x : ℕ) → is x s + reach kids x l s (kids s) ≤ reach kids x (suc l) p ss = λ x. reach-down kids (λ _ _ y. is x y) l p s ss k in
-      let no : s ≡ a → ⊥ = λ e. omega (arith, z, rw e at k) in
-      omega
-      (arith,
-        is-no a s (λ e. no (sym e)),
-        never kids a l s (kids s) (λ x r. f x (omega (arith, down x))) (f s (omega (arith, is-self s, down s)) no)))
+    let down : (x : ℕ) → is x s + reach kids x l s (kids s) ≤ reach kids x (suc l) p ss = λ x. reach-down kids (λ _ _ y. is x y) l p s ss k in
+    let no : s ≡ a → ⊥ = λ e. omega (arith, z, rw e at k) in
+    omega (
+      arith,
+      is-no a s (λ e. no (sym e)),
+      never kids a l s (kids s) (λ x r. f x (omega (arith, down x))) (f s (omega (arith, is-self s, down s)) no),
+    ))
 
 -- the slots below those met are met, each in its directory
 pub parents : (kids : ℕ → List ℕ) (w : ℕ → ℕ → ℕ) (l p : ℕ) (ss : List ℕ)
@@ -80,14 +82,15 @@ pub parents : (kids : ℕ → List ℕ) (w : ℕ → ℕ → ℕ) (l p : ℕ) (s
 unfolding total
 parents kids w zero p ss = omega (arith, sum-zero (λ s. (1 - is 0 0) * sum (w s) (kids s)) ss (λ s k. zero-mul (sum (w s) (kids s))))
 parents kids w (suc l) p ss =
-    omega
-    (arith,
+    omega (
+      arith,
       sum-add (w p) (λ s. (1 - is (suc l) 0) * sum (w s) (kids s) + total kids (λ m _ s. (1 - is m 0) * sum (w s) (kids s)) l s (kids s)) ss,
       sum-le
-      (λ s. w p s + ((1 - is (suc l) 0) * sum (w s) (kids s) + total kids (λ m _ s. (1 - is m 0) * sum (w s) (kids s)) l s (kids s)))
-      (λ s. w p s + total kids (λ _ q s. w q s) l s (kids s))
-      ss
-      (λ s k. rw (is-no (suc l) 0 (λ e. omega arith)) (omega (arith, parents kids w l s (kids s)))))
+          (λ s. w p s + ((1 - is (suc l) 0) * sum (w s) (kids s) + total kids (λ m _ s. (1 - is m 0) * sum (w s) (kids s)) l s (kids s)))
+          (λ s. w p s + total kids (λ _ q s. w q s) l s (kids s))
+          ss
+          (λ s k. rw (is-no (suc l) 0 (λ e. omega arith)) (omega (arith, parents kids w l s (kids s)))),
+    )
 
 -- A way of k steps: what is met once and so is met at the level that its way says.
 pub data Way (kids : ℕ → List ℕ) (x : ℕ) : List ℕ → ℕ → Type 0 where
@@ -97,6 +100,14 @@ pub data Way (kids : ℕ → List ℕ) (x : ℕ) : List ℕ → ℕ → Type 0 w
 pub way-step : (kids : ℕ → List ℕ) (x d : ℕ) {ss : List ℕ} {k : ℕ} → Way kids d ss k → 1 ≤ count x (kids d) → Way kids x ss (suc k)
 way-step kids x d (here c) h = down d c (here h)
 way-step kids x d (down q c w) h = down q c (way-step kids x d w h)
+
+-- a way stays where each slot that is met keeps the slots below it
+pub way-more : (kids kids′ : ℕ → List ℕ) (good : ℕ → Type 0)
+    → ((q : ℕ) → good q → (y : ℕ) → 1 ≤ count y (kids q) → good y × (1 ≤ count y (kids′ q)))
+    → (x : ℕ) {ss : List ℕ} {k : ℕ} → Way kids x ss k → (ss′ : List ℕ) → ((y : ℕ) → 1 ≤ count y ss → good y × (1 ≤ count y ss′))
+    → Way kids′ x ss′ k
+way-more kids kids′ good f x (here c) ss′ h = here (h x c .1)
+way-more kids kids′ good f x (down q c w) ss′ h = down q (h q c .1) (way-more kids kids′ good f x w (kids′ q) (f q (h q c .0)))
 
 total-mem : (kids : ℕ → List ℕ) (w : Weight) (l p s : ℕ) (ss : List ℕ) → 1 ≤ count s ss → w l p s ≤ total kids w l p ss
 unfolding total
@@ -118,11 +129,12 @@ way-met kids x j l p {ss} (down {k = k} q c w) e = go l e (λ i h. way-met kids 
 pub way-level : (kids : ℕ → List ℕ) (x j l p : ℕ) {ss : List ℕ} {k : ℕ} → reach kids x l p ss ≡ 1 → Way kids x ss k → l ≡ k + suc j
     → total kids (λ m _ s. is x s * is m 0) l p ss ≡ 0
 way-level kids x j l p {ss} once w e =
-    omega
-    (arith,
+    omega (
+      arith,
       way-met kids x (suc j) l p w e,
       total-add kids (λ m _ s. is x s * is m 0) (λ m _ s. is x s * is m (suc j)) l p ss,
-      total-le kids kids (λ _ _ s. is x s) (λ m _ s. is x s * is m 0 + is x s * is m (suc j)) l p ss (λ m q s r g. (refl, two m (eqb x s))))
+      total-le kids kids (λ _ _ s. is x s) (λ m _ s. is x s * is m 0 + is x s * is m (suc j)) l p ss (λ m q s r g. (refl, two m (eqb x s))),
+    )
   where
     two : (m : ℕ) (b : Bool) → one-if b * is m 0 + one-if b * is m (suc j) ≤ one-if b
     two m false = omega arith

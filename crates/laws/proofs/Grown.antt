@@ -50,7 +50,7 @@ height-path e r l m = rw (height-is e) (go (leb e 512) refl (leb e 131072) refl)
     go false p true q = unfold heights above in (let s = leb-true e 131072 q in omega arith)
     go false p false q = unfold heights above in omega arith
 
-pub span-le : (e f : ℕ) → e ≤ f → span e ≤ span f
+span-le : (e f : ℕ) → e ≤ f → span e ≤ span f
 unfolding span
 span-le e f l = omega arith
 

@@ -1,26 +1,23 @@
 -- Set info keeps soundness, and every other file as it was.
 use Prim.Native.Nat.{ℕ, _+_, _-_, _*_, _≤_, _<_}
-use mathlib.Core.Path.{_≡_, refl, sym, ap, _∙_}
-use mathlib.Core.List.{[], _∷_}
-use mathlib.Core.Bool.{Bool, true, false, not}
-use lib.Dec.{eqb}
+use mathlib.Core.Path.{_≡_, _∙_}
+use mathlib.Core.Bool.{true}
 use native.Mathlib.Omega.{arith}
-use borrow.Author.Tests.{eqb-true, eqb-false, eq-eqb}
-use Rattle.model.specs.Bytes.{Bytes, put, putWord, paste}
-use Rattle.model.specs.Names.{parts}
+use borrow.Author.Tests.{eqb-false}
+use Rattle.model.specs.Bytes.{Bytes}
 use Rattle.model.specs.Directory.{sort, at, volume, key, kids, directory}
-use Rattle.model.specs.Calls.{total, target, spot, home, lastPart}
+use Rattle.model.specs.Calls.{total, target, spot, home}
 use Rattle.model.specs.Info.{infoSet, setInfoNumber, setInfo}
 use Rattle.model.specs.Sound.{sound}
 use Rattle.model.specs.declared.Stamp.{Stamp}
 use Rattle.model.proofs.ByteLaws.{put-off, putWord-out, paste-out}
-use Rattle.laws.proofs.Frame.{at-inj, at-off, Named, twins-same}
+use Rattle.laws.proofs.Frame.{at-off, Named, twins-same}
 use Rattle.laws.proofs.Sound.{Sound, sound-facts, facts-sound}
 use Rattle.laws.proofs.Keep.{Head, misnamed-same, badge-same, sort-named}
-use Rattle.laws.proofs.Facts.{Seen, seen-directory}
+use Rattle.laws.proofs.Facts.{seen-directory}
 use Rattle.laws.proofs.One.{Place, Others, slot-head}
 use Rattle.laws.proofs.Relabel.{Relabels, relabel-sound, relabel-others}
-use Rattle.laws.proofs.Lookup.{first-zero, not-false, Entry, entry-led, target-led}
+use Rattle.laws.proofs.Lookup.{first-zero, entry-led, target-led}
 use Rattle.laws.proofs.Settled.{settled, others-self}
 
 info-out : (v : Bytes) (s access aux : ℕ) (t : Stamp) (i : ℕ) → (at s + 30 ≤ i → i < at s + 37 → ⊥) → infoSet v s access aux t i ≡ v i

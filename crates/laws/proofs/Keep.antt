@@ -1,20 +1,19 @@
 -- What the reading of one entry depends on: where that stays, its sort, fields, blocks and slots stay, and it has no more faults.
-use Prim.Native.Nat.{ℕ, zero, suc, _+_, _-_, _*_, _≤_, _<_, _/_, _%_}
-use mathlib.Core.Path.{_≡_, refl, sym, ap, _∙_}
-use mathlib.Core.List.{List, [], _∷_}
+use Prim.Native.Nat.{ℕ, _+_, _*_, _≤_, _<_, _/_}
+use mathlib.Core.Path.{_≡_, refl, ap}
 use mathlib.Core.Bool.{Bool, true, false}
-use lib.Dec.{leb, ltb, eqb}
-use lib.ListN.{drop, length}
+use lib.Dec.{eqb}
+use lib.ListN.{drop}
 use native.Mathlib.Omega.{arith}
 use native.Mathlib.Nat.{add-zero, add-assoc}
-use borrow.Author.Tests.{eqb-true, eqb-false, ne-eqb, eq-eqb}
-use Rattle.model.specs.Bytes.{Bytes, sum, count, is, one-if, ne, unless, word, long}
+use borrow.Author.Tests.{eqb-true, eqb-false, ne-eqb}
+use Rattle.model.specs.Bytes.{Bytes, count, ne, unless, word, long}
 use Rattle.model.specs.Names.{capitalName, alike}
-use Rattle.model.specs.Directory.{Sort, inactive, directory, improper, file, sortOf, sort, live, at, blockOf, slotOf, slotSize, slotsInBlock, directoryType, volume, volumeBlock, volumeChain, mapPlace, mapBlock, headerKind, headerSlotSize, headerSlots, activeCount, parentBlock, parentSlot, parentSlotSize, field, ftype, key, used, eof, directoryKey, chain, slots, slotsBelow, kids, active}
-use Rattle.model.specs.File.{Node, nodes, blocksIn, blocksOf, blocks, span, heightFor}
-use Rattle.model.specs.Sound.{links, twins, outside, differ, volumeFaults, headerFaults, topFaults, directoryFaults, late, fileFaults, entryFaults, faultsOf, faults}
+use Rattle.model.specs.Directory.{Sort, inactive, directory, improper, file, sortOf, sort, at, directoryType, volume, volumeBlock, mapBlock, headerKind, activeCount, field, ftype, key, used, eof, directoryKey, chain, slots, slotsBelow, kids, active}
+use Rattle.model.specs.File.{nodes, blocksIn, blocksOf, blocks, content}
+use Rattle.model.specs.Sound.{links, twins, volumeFaults, headerFaults, topFaults, directoryFaults, fileFaults, entryFaults, faultsOf, faults}
 use Rattle.model.proofs.ByteLaws.{word-same, long-same}
-use Rattle.laws.proofs.Frame.{Alike, Named, word-in, next-in, previous-in, chain-same, links-same, nodes-same, capitalName-same, alike-same}
+use Rattle.laws.proofs.Frame.{Alike, Named, next-in, previous-in, chain-same, links-same, nodes-same, fileByte-same, capitalName-same, alike-same}
 
 -- An entry that is not the volume is read from its slot.
 pub sort-at : (v : Bytes) (s : ℕ) → (s ≡ volume → ⊥) → sort v s ≡ sortOf (v (at s) / 16)
@@ -101,12 +100,13 @@ pub header-le : (v v′ : Bytes) (s k : ℕ) → HeadFrom 20 v v′ k → badge 
 unfolding headerFaults
 header-le v v′ s k f g =
     let one : (j : ℕ) → 20 ≤ j → j < 43 → (37 ≤ j → j < 39 → ⊥) → v′ (k * 512 + j) ≡ v (k * 512 + j) = f in
-    rw
-    (head-word v v′ k 0x27 f (omega arith) (omega arith) (λ p q. omega arith),
+    rw (
+      head-word v v′ k 0x27 f (omega arith) (omega arith) (λ p q. omega arith),
       one 0x29 (omega arith) (omega arith) (λ p q. omega arith),
       one 0x23 (omega arith) (omega arith) (λ p q. omega arith),
       one 0x24 (omega arith) (omega arith) (λ p q. omega arith),
-      one 0x2A (omega arith) (omega arith) (λ p q. omega arith))
+      one 0x2A (omega arith) (omega arith) (λ p q. omega arith),
+    )
     (omega arith)
 
 pub sort-same : (v v′ : Bytes) (s : ℕ) → v′ (at s) / 16 ≡ v (at s) / 16 → sort v′ s ≡ sort v s
@@ -161,7 +161,7 @@ module _ (v v′ : Bytes) (s : ℕ) (same : Fields v v′ s) where
       go true e = refl
       go false e =
           let one : (o : ℕ) → 16 ≤ o → o < 30 → v′ (at s + o) ≡ v (at s + o) =
-            λ o g l. same (eqb-false s volume e) o g (omega arith) (λ p q. omega arith) in
+          λ o g l. same (eqb-false s volume e) o g (omega arith) (λ p q. omega arith) in
           long-same v′ v (at s + 0x15) (at s + 0x15) (one 0x15 (omega arith) (omega arith))
           (rw (add-assoc (at s) 0x15 1) (one 0x16 (omega arith) (omega arith)))
           (rw (add-assoc (at s) 0x15 2) (one 0x17 (omega arith) (omega arith)))
@@ -189,6 +189,10 @@ module _ (v v′ : Bytes) (s : ℕ) (K : Keeps v v′ s) where
       go directory e = unfold blocksOf in chain-eq e
       go improper e = unfold blocksOf in refl
       go (file h) e = unfold blocksOf in ap blocksIn (nodes-eq h e)
+
+  pub content-same : (h : ℕ) → sort v s ≡ file h → content v′ s ≡ content v s
+  content-same h e =
+      rw (K .sorted, key-same v v′ s (K .slot), e) (fileByte-same v v′ h (key v s) (λ b c. K .trees h e b (rw (file-blocks v s h e) c)))
 
   pub kids-same : kids v′ s ≡ kids v s
   kids-same = rw (K .sorted) (go (sort v s) refl)
@@ -221,21 +225,27 @@ module _ (v v′ : Bytes) (s : ℕ) (K : Keeps v v′ s) where
       rw (nodes-eq h e, blocks-same, ftype-same v v′ s (K .slot), eof-same v v′ s (K .slot), used-same v v′ s (K .slot)) refl
 
   -- what changes in a directory with the entries in it
-  abbrev pub content : Bytes → ℕ
-  content w = ne (activeCount w (key v s)) (active w (kids v s)) + twins w (kids v s)
+  abbrev pub listed : Bytes → ℕ
+  listed w = ne (activeCount w (key v s)) (active w (kids v s)) + twins w (kids v s)
 
-  directory-le : (n : ℕ) → sort v s ≡ directory → ((s ≡ volume → ⊥) → badge v′ s (key v s) ≤ badge v s (key v s)) → content v′ ≤ content v
+  directory-le : (n : ℕ) → sort v s ≡ directory → ((s ≡ volume → ⊥) → badge v′ s (key v s) ≤ badge v s (key v s)) → listed v′ ≤ listed v
       → directoryFaults n v′ s ≤ directoryFaults n v s
   unfolding directoryFaults
   directory-le n e g c =
-      rw
-      (kids-same, blocks-same, ftype-same v v′ s (K .slot), eof-same v v′ s (K .slot), used-same v v′ s (K .slot),
-        key-same v v′ s (K .slot), links-eq e)
+      rw (
+        kids-same,
+        blocks-same,
+        ftype-same v v′ s (K .slot),
+        eof-same v v′ s (K .slot),
+        used-same v v′ s (K .slot),
+        key-same v v′ s (K .slot),
+        links-eq e,
+      )
       (omega (arith, top-le e g))
 
   pub faults-same : (n m q : ℕ) → key v′ q ≡ key v q → misnamed v′ s ≤ misnamed v s
       → (sort v s ≡ directory → (s ≡ volume → ⊥) → badge v′ s (key v s) ≤ badge v s (key v s))
-      → (sort v s ≡ directory → content v′ ≤ content v) → faults n v′ m q s ≤ faults n v m q s
+      → (sort v s ≡ directory → listed v′ ≤ listed v) → faults n v′ m q s ≤ faults n v m q s
   faults-same n m q e g b c = rw (K .sorted) (go (sort v s) refl)
     where
       same : entryFaults v′ q s ≤ entryFaults v q s

@@ -17,6 +17,10 @@ pub mod Most
 pub mod Fresh
 pub mod Create
 pub mod Extend
+pub mod Created
+pub mod Refile
+pub mod Octet
+pub mod Format
 pub mod Weigh
 pub mod Move
 pub mod Take

@@ -1,22 +1,22 @@
 -- Where a path leads on a sound volume, how deep that is, and what a call that is not refused knows of it.
 use Prim.Native.Nat.{ℕ, zero, suc, _+_, _-_, _*_, _≤_, _<_}
-use mathlib.Core.Path.{_≡_, refl, sym, ap, _∙_}
+use mathlib.Core.Path.{_≡_, refl, sym, _∙_}
 use mathlib.Core.List.{List, [], _∷_}
 use mathlib.Core.Option.{Option, none, some}
 use mathlib.Core.Bool.{Bool, true, false, not, false≢true}
-use lib.Dec.{leb, ltb, eqb}
+use lib.Dec.{ltb, eqb}
 use lib.ListN.{length}
 use native.Mathlib.Omega.{arith}
-use borrow.Author.Tests.{eqb-true, eqb-false, ltb-true, leb-true}
-use Rattle.model.specs.Bytes.{Bytes, sum, count, is, one-if, within, _and_}
+use borrow.Author.Tests.{eqb-true, ltb-true}
+use Rattle.model.specs.Bytes.{Bytes, sum, count, is, _and_}
 use Rattle.model.specs.Names.{Part, part, slash, nameMost, pathMost, nameEnd, partsFrom, parts, properName, properParts, properPath, sameName}
 use Rattle.model.specs.Directory.{Sort, inactive, directory, improper, file, sort, isActive, isDirectory, at, volume, kids, seek, Target, noVolume, noDirectory, missing, there, last, along, lookup}
 use Rattle.model.specs.Refusals.{Row, first}
 use Rattle.model.specs.Calls.{isNoVolume, isNoDirectory, isMissing, isThere, home, spot, target, lastPart}
 use Rattle.model.proofs.RefusalLaws.{first-applies, first-passes}
 use Rattle.model.proofs.SumLaws.{is-self}
-use Rattle.laws.proofs.Grow.{Way, here, down, way-step}
-use Rattle.laws.proofs.Sound.{and-left, and-right, deep, top, Sound}
+use Rattle.laws.proofs.Grow.{Way, here, way-step}
+use Rattle.laws.proofs.Sound.{and-left, and-right, top, Sound}
 use Rattle.laws.proofs.Facts.{Seen, kid-seen, volume-seen, volume-directory}
 use Rattle.laws.proofs.One.{Place, place}
 use Rattle.laws.proofs.Spelling.{within-is}
@@ -67,6 +67,7 @@ pub record Home (v : Bytes) (d k : ℕ) : Type 0 where
   pub seen : Seen v d
   pub holds : sort v d ≡ directory
   pub way : Way (kids v) d top k
+  pub up : (d ≡ volume → ⊥) → (q : ℕ) × Place v d q
 
 -- What a path leads to: y is its last name, and c names follow its first.
 pub data Led (v p : Bytes) (y : Part) (c : ℕ) : Target → Type 0 where
@@ -111,11 +112,12 @@ module _ {n : ℕ} {v : Bytes} (S : Sound n v) (p : Bytes) where
                 seen = kid-seen S d s (H .seen) (H .holds) c;
                 holds = directory-is (sort v s) g;
                 way = way-step (kids v) s d (H .way) c;
+                up = λ _. (d, place s d S (H .seen) (H .holds) c);
               }))
 
   volume-home : Home v volume 0
   unfolding sum
-  volume-home = record { seen = volume-seen S; holds = volume-directory S; way = here {ss = top} (omega arith) }
+  volume-home = record { seen = volume-seen S; holds = volume-directory S; way = here {ss = top} (omega arith); up = λ z. absurd (z refl) }
 
   lookup-led : (ps : List Part) → Led v p (lastPart ps) (length ps - 1) (lookup v p ps)
   unfolding lookup along lastPart

@@ -45,7 +45,7 @@ capital-near {v} {v′} {a} N =
     )
     refl
 
-pub alike-near : {v v′ : Bytes} {a b : ℕ} → Near v v′ a → Near v v′ b → alike v′ a b ≡ alike v a b
+alike-near : {v v′ : Bytes} {a b : ℕ} → Near v v′ a → Near v v′ b → alike v′ a b ≡ alike v a b
 unfolding alike
 alike-near {v} {v′} {a} {b} N M =
     rw (

@@ -115,11 +115,11 @@ mark i zero s x = 0
 mark i (suc zero) s x = is i s
 mark i (suc (suc l)) s x = 0
 
-pub mark-low : (i s c : ℕ) (w : Bytes) → weigh (mark i) w 1 s c ≡ is i s
+mark-low : (i s c : ℕ) (w : Bytes) → weigh (mark i) w 1 s c ≡ is i s
 unfolding weigh
 mark-low i s c w = omega (arith, upto-zero 256 _ (λ j l. part-zero (mark i) w 0 s c j (λ z. refl)))
 
-pub mark-is : (i k : ℕ) (w : Bytes) → i < 256 → weigh (mark i) w 2 0 k + is (pointer w k i) 0 ≡ 1
+mark-is : (i k : ℕ) (w : Bytes) → i < 256 → weigh (mark i) w 2 0 k + is (pointer w k i) 0 ≡ 1
 unfolding weigh
 mark-is i k w l =
     let alone =
@@ -142,7 +142,7 @@ mark-is i k w l =
 
 -- growth leaves no more holes
 module _ (w : Bytes) (h k : ℕ) (w′ : Bytes) (h′ k′ : ℕ) (grows : (g : Gauge) → weigh g w h 0 k ≤ weigh g w′ h′ 0 k′) where
-  pub gap-less : (r : ℕ) → 0 ≡ above h r → 0 ≡ above h′ r → is (dataBlock w′ h′ k′ r) 0 ≤ is (dataBlock w h k r) 0
+  gap-less : (r : ℕ) → 0 ≡ above h r → 0 ≡ above h′ r → is (dataBlock w′ h′ k′ r) 0 ≤ is (dataBlock w h k r) 0
   gap-less r s t =
       at-or-off (dataBlock w h k r) 0 (λ e. omega (arith, is-yes (dataBlock w h k r) 0 e, is-most (dataBlock w′ h′ k′ r) 0))
       (λ d. rw (grown-data w h 0 k w′ h′ 0 k′ r grows s t d) (omega arith))

@@ -2,25 +2,25 @@
 -- by inactive ones. The volume stays sound, and every other file keeps its place, fields, blocks and bytes.
 use Prim.Native.Nat.{ℕ, _+_, _-_, _*_, _≤_, _<_, _/_, _%_}
 use mathlib.Core.Path.{_≡_, refl, sym, ap, _∙_}
-use mathlib.Core.List.{List, [], _∷_, _++_}
+use mathlib.Core.List.{List, [], _++_}
 use mathlib.Core.Bool.{Bool, true, false}
 use lib.Dec.{ltb, eqb}
 use native.Mathlib.Omega.{arith}
-use native.Mathlib.Nat.{add-zero, add-assoc}
+use native.Mathlib.Nat.{add-assoc}
 use borrow.Author.Tests.{eqb-true, eqb-false, eq-eqb, ne-eqb, ltb-true, ltb-false}
-use Rattle.model.specs.Bytes.{Bytes, sum, count, is, ne, word, _and_}
+use Rattle.model.specs.Bytes.{Bytes, sum, count, is, ne}
 use Rattle.model.specs.Map.{mapBlocks, free, restClear}
-use Rattle.model.specs.Directory.{Sort, inactive, directory, improper, file, sort, live, at, volume, volumeBlock, mapPlace, mapBlock, totalBlocks, previous, activeCount, key, field, slotsBelow, kids, active}
-use Rattle.model.specs.File.{blocksOf, blocks}
+use Rattle.model.specs.Directory.{Sort, inactive, directory, improper, file, sort, live, at, volume, volumeBlock, mapPlace, activeCount, key, field, slotsBelow, kids, active}
+use Rattle.model.specs.File.{blocksOf, blocks, content}
 use Rattle.model.specs.Sound.{prodos, twins, faultsOf, faults}
-use Rattle.model.proofs.BitLaws.{is-yes, is-no}
+use Rattle.model.proofs.BitLaws.{is-no}
 use Rattle.model.proofs.ByteLaws.{word-same}
 use Rattle.model.proofs.SumLaws.{is-self, is-eq, sum-append, sum-eq, count-none}
 use Rattle.laws.proofs.Total.{Weight, total, reach, total-le, total-change, total-add, total-scale, Edge, root, child}
 use Rattle.laws.proofs.Grow.{core-le, core-eq, never, Way, way-step, way-level}
-use Rattle.laws.proofs.Frame.{at-inj, at-link, at-block, at-place, at-head, Alike, Named, word-in, previous-in, twins-same}
-use Rattle.laws.proofs.Sound.{deep, top, sums, fixed, mine, Sound}
-use Rattle.laws.proofs.Keep.{Fields, Head, Keeps, head-word, head-late, map-same, misnamed-same, badge-same, sort-named, key-same, blocks-same, kids-same, faults-same}
+use Rattle.laws.proofs.Frame.{at-inj, at-link, at-block, at-place, at-head, Alike, Named, previous-in, twins-same}
+use Rattle.laws.proofs.Sound.{deep, top, sums, mine, Sound}
+use Rattle.laws.proofs.Keep.{Fields, Head, Keeps, head-word, head-late, map-same, misnamed-same, badge-same, sort-named, key-same, blocks-same, content-same, kids-same, faults-same}
 use Rattle.laws.proofs.Facts.{kid-seen, kid-proper, kid-block, Seen, Placed, seen-placed, kid-placed, kid-once, placed-mine, placed-head, placed-apart, own-mine, seen-once, mine-off, mine-apart, one-parent, directory-key, seen-directory, volume-seen, volume-directory}
 
 -- an entry with no slots below it
@@ -87,13 +87,14 @@ pub data Touch (v : Bytes) (a d b j : ℕ) : Type 0 where
 abbrev pub Apart : Bytes → Bytes → ℕ → ℕ → Type 0
 Apart v v′ a d = (b j : ℕ) → 1 ≤ mine v b → j < 512 → (Touch v a d b j → ⊥) → v′ (b * 512 + j) ≡ v (b * 512 + j)
 
--- a file x that keeps its place, its entry, its blocks and their bytes
+-- a file x that keeps its place, its entry, its blocks, their bytes, and so its own
 pub record Kept (v v′ : Bytes) (x : ℕ) : Type 0 where
   pub seen : Seen v′ x
   pub entry : (o : ℕ) → o < 39 → v′ (at x + o) ≡ v (at x + o)
   pub sorted : sort v′ x ≡ sort v x
   pub owns : blocks v′ x ≡ blocks v x
   pub bytes : (b : ℕ) → 1 ≤ count b (blocks v x) → Alike 512 v v′ b
+  pub reads : content v′ x ≡ content v x
 
 abbrev pub Others : Bytes → Bytes → ℕ → Type 0
 Others v v′ a = (x h : ℕ) → Seen v x → (x ≡ a → ⊥) → sort v x ≡ file h → Kept v v′ x
@@ -111,12 +112,13 @@ prodos-same : (n : ℕ) (v v′ : Bytes) → Alike 4 v v′ volumeBlock → Head
 unfolding prodos
 prodos-same n v v′ f g =
     let one : (j : ℕ) → 4 ≤ j → j < 43 → (37 ≤ j → j < 39 → ⊥) → v′ (volumeBlock * 512 + j) ≡ v (volumeBlock * 512 + j) = g in
-    rw
-    (previous-in v v′ volumeBlock f,
+    rw (
+      previous-in v v′ volumeBlock f,
       one 0x04 (omega arith) (omega arith) (λ p q. omega arith),
       one 0x23 (omega arith) (omega arith) (λ p q. omega arith),
       one 0x24 (omega arith) (omega arith) (λ p q. omega arith),
-      head-word v v′ volumeBlock 0x29 (head-late v v′ volumeBlock g) (omega arith) (omega arith) (λ p q. omega arith))
+      head-word v v′ volumeBlock 0x29 (head-late v v′ volumeBlock g) (omega arith) (omega arith) (λ p q. omega arith),
+    )
     refl
 
 -- a change of a in d
@@ -164,8 +166,8 @@ module _ {n : ℕ} {v v′ : Bytes} {a d : ℕ} (T : Step n v v′ a d) where
   pub one-count : (x : ℕ) → Seen v x → (x ≡ a → ⊥) → sort v x ≡ directory → (x ≡ d → ⊥) → activeCount v′ (key v x) ≡ activeCount v (key v x)
   one-count x h k e z =
       let one : (j : ℕ) → 37 ≤ j → j < 39 → v′ (key v x * 512 + j) ≡ v (key v x * 512 + j) =
-        λ j p q. own-byte x h k (key v x) j (directory-key S x h e) (omega arith) (slot-head S P x j h e (omega arith) (omega arith))
-        (λ f _ _. z (mine-apart S x d (key v x) h (P .home) (directory-key S x h e) (rw f (directory-key S d (P .home) (P .holds))))) in
+      λ j p q. own-byte x h k (key v x) j (directory-key S x h e) (omega arith) (slot-head S P x j h e (omega arith) (omega arith))
+      (λ f _ _. z (mine-apart S x d (key v x) h (P .home) (directory-key S x h e) (rw f (directory-key S d (P .home) (P .holds))))) in
       word-same v′ v (key v x * 512 + 0x25) (key v x * 512 + 0x25) (one 37 (omega arith) (omega arith))
       (rw (add-assoc (key v x * 512) 37 1) (one 38 (omega arith) (omega arith)))
 
@@ -201,7 +203,7 @@ module _ {n : ℕ} {v v′ : Bytes} {a d : ℕ} (T : Step n v v′ a d) where
         sorted = sort-named v v′ x (one-name x h k);
         slot = one-fields x h k;
         chains = λ e b c j l. own-byte x h k b j c (omega arith)
-          (λ p q. at-link a b (b * 512 + j - at a) j (omega arith) l (omega arith)) (λ _ p q. omega arith);
+            (λ p q. at-link a b (b * 512 + j - at a) j (omega arith) l (omega arith)) (λ _ p q. omega arith);
         head = λ e. head-late v v′ (key v x) (one-head x h k e);
         trees = λ g e. file-byte x g h k e;
       }
@@ -209,11 +211,12 @@ module _ {n : ℕ} {v v′ : Bytes} {a d : ℕ} (T : Step n v v′ a d) where
   -- no directory holds itself
   pub one-apart : d ≡ a → ⊥
   one-apart e =
-      omega
-      (arith,
+      omega (
+        arith,
         P .seen,
         never (kids v) a deep volume top (λ x r k. go x r k (ltb 0 (count a (kids v x))) refl)
-        (unfold sum in omega (arith, is-no a volume (P .proper))))
+            (unfold sum in omega (arith, is-no a volume (P .proper))),
+      )
     where
       go : (x : ℕ) → Seen v x → (x ≡ a → ⊥) → (b : Bool) → ltb 0 (count a (kids v x)) ≡ b → count a (kids v x) ≡ 0
       go x r k true f = absurd (k (one-parent S x d a r (P .home) (ltb-true 0 (count a (kids v x)) f) (P .inside) ∙ e))
@@ -316,7 +319,7 @@ module _ {n : ℕ} {v v′ : Bytes} {a d t : ℕ} {c e e′ : List ℕ} (C : Cha
   core-once =
       sym
       (old-total (λ _ _ s. is a s) (λ m s o h. is-no a s (λ q.
-        count-none s (omega (arith, sum-append (is s) c e, ap (count s) (sym (C .old) ∙ off-kids v a (rw q o)))))))
+      count-none s (omega (arith, sum-append (is s) c e, ap (count s) (sym (C .old) ∙ off-kids v a (rw q o)))))))
       ∙ seen-once S a (P .seen)
 
   core-part : (q x : ℕ) → count x (core q) ≤ count x (kids v q)
@@ -360,34 +363,37 @@ module _ {n : ℕ} {v v′ : Bytes} {a d t : ℕ} {c e e′ : List ℕ} (C : Cha
       go true f = rw (eqb-true x a f, parent (eqb-true x a f) j, is-self a) (omega (arith, C .entry m))
       go false f =
           let k = eqb-false x a f in
-          omega
-          (arith,
+          omega (
+            arith,
             faults-same v v′ x (one-keeps T x s k) n m q (core-key q x j) (omega (arith, misnamed-same v v′ x (one-name T x s k)))
-            (λ g _. omega (arith, badge-same v v′ x (key v x) (one-name T x s k) (one-head T x s k g)))
-            (right (eqb x d) refl k))
+                (λ g _. omega (arith, badge-same v v′ x (key v x) (one-name T x s k) (one-head T x s k g)))
+                (right (eqb x d) refl k),
+          )
 
   core-right : sums v′ (faults n v′) ≡ 0
   core-right =
-      omega
-      (arith,
+      omega (
+        arith,
         S .right,
         C .level,
         new-total (faults n v′) (λ m s o h. off-faults n v′ m a s o),
         total-le core core (λ m q x. faults n v m q x + is a x * is m 0 * t) (faults n v′) deep volume top
-        (λ m q x r j. (refl, core-faults m q x r j)),
+            (λ m q x r j. (refl, core-faults m q x r j)),
         total-add core (faults n v) (λ m _ x. is a x * is m 0 * t) deep volume top,
         core-seen (faults n v),
         core-seen (λ m _ x. is a x * is m 0 * t),
-        total-scale (kids v) (λ m _ x. is a x * is m 0) t deep volume top)
+        total-scale (kids v) (λ m _ x. is a x * is m 0) t deep volume top,
+      )
 
   core-owners : (b : ℕ) → mine v′ b + count b (blocks v a) ≡ mine v b + count b (blocks v′ a)
   core-owners b =
-      omega
-      (arith,
+      omega (
+        arith,
         old-total (λ _ _ s. count b (blocks v s)) (λ m s o h. off-blocks v s b o),
         new-total (λ _ _ s. count b (blocks v′ s)) (λ m s o h. off-blocks v′ s b o),
         total-change core core (λ s. count b (blocks v s)) (λ s. count b (blocks v′ s)) a deep volume top core-once (λ x h. refl)
-        (λ x h k. ap (count b) (blocks-same v v′ x (one-keeps T x (met x h) k))))
+            (λ x h k. ap (count b) (blocks-same v v′ x (one-keeps T x (met x h) k))),
+      )
 
   pub one-sound : Sound n v′
   unfolding field
@@ -396,8 +402,8 @@ module _ {n : ℕ} {v v′ : Bytes} {a d t : ℕ} {c e e′ : List ℕ} (C : Cha
         large = S .large;
         small = S .small;
         sign = prodos-same n v v′ (λ j l. one-keeps T volume (volume-seen S) (λ f. P .proper (sym f)) .chains (volume-directory S) volumeBlock
-          (directory-key S volume (volume-seen S) (volume-directory S)) j l) (one-volume T)
-          ∙ S .sign;
+            (directory-key S volume (volume-seen S) (volume-directory S)) j l) (one-volume T)
+            ∙ S .sign;
         place = map-same v v′ (head-late v v′ volumeBlock (one-volume T)) ∙ S .place;
         right = core-right;
         once = λ b h. omega (arith, core-owners b, S .once b h, C .balance b h);
@@ -406,11 +412,12 @@ module _ {n : ℕ} {v v′ : Bytes} {a d t : ℕ} {c e e′ : List ℕ} (C : Cha
 
   pub one-seen : (x : ℕ) → Seen v x → (sort v x ≡ inactive → ⊥) → (sort v′ x ≡ inactive → ⊥) → Seen v′ x
   one-seen x h f g =
-      omega
-      (arith,
+      omega (
+        arith,
         h,
         old-total (λ _ _ s. is x s) (λ m s o _. is-no x s (λ q. f (rw q o))),
-        new-total (λ _ _ s. is x s) (λ m s o _. is-no x s (λ q. g (rw q o))))
+        new-total (λ _ _ s. is x s) (λ m s o _. is-no x s (λ q. g (rw q o))),
+      )
 
   pub one-others : Others v v′ a
   one-others x h s k f =
@@ -422,6 +429,7 @@ module _ {n : ℕ} {v v′ : Bytes} {a d t : ℕ} {c e e′ : List ℕ} (C : Cha
         sorted = same;
         owns = blocks-same v v′ x r;
         bytes = r .trees h f;
+        reads = content-same v v′ x r h f;
       }
     where
       not-volume : x ≡ volume → ⊥

@@ -81,7 +81,7 @@ module _ {n : ℕ} {v : Bytes} (S : Sound n v) {v′ : Bytes} (N : SameNames v v
           into s k i true j rec = rw (i, j, next) (rec k (folder-is (sort v s) j))
           into s k i false j rec = rw (i, j, next) refl
 
-  pub lookup-same : (ps : List Part) → lookup v′ p ps ≡ lookup v p ps
+  lookup-same : (ps : List Part) → lookup v′ p ps ≡ lookup v p ps
   unfolding lookup
   lookup-same [] = refl
   lookup-same (x ∷ r) =

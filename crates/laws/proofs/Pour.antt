@@ -46,11 +46,11 @@ module _ {n : ℕ} {w : Bytes} {h q k : ℕ} (F : Fit n w h q k) (p pos size : �
   unfolding laid
   laid-alike b d j l = paste-out w _ _ _ _ (λ x y. d (omega arith))
 
-  pub laid-still : Still n w h q k new
+  laid-still : Still n w h q k new
   laid-still = data-still n h q k p w new F (unfold laid in octets-paste w _ _ _ (F .bytes) (λ i l. octets _)) there laid-alike
 
   module _ (i : ℕ) (t : q ≡ above h p) where
-    pub laid-in : i / 512 ≡ p → pos ≤ i → i < pos + size → fileByte new h k i ≡ buffer (i - pos)
+    laid-in : i / 512 ≡ p → pos ≤ i → i < pos + size → fileByte new h k i ≡ buffer (i - pos)
     laid-in e l m =
         let same : dataBlock new h k (i / 512) ≡ dataBlock w h k p = rw e (still-data laid-still p t) in
         let x =
@@ -58,7 +58,7 @@ module _ {n : ℕ} {w : Bytes} {h q k : ℕ} (F : Fit n w h q k) (p pos size : �
         file-full new h k i (λ z. there (sym same ∙ z))
         ∙ rw (same, x .back) (unfold laid in paste-in w _ _ _ (dataBlock w h k p * 512 + i % 512) (x .low) (x .high))
 
-    pub laid-off : q ≡ above h (i / 512) → (i / 512 ≡ p → pos ≤ i → i < pos + size → ⊥) → fileByte new h k i ≡ fileByte w h k i
+    laid-off : q ≡ above h (i / 512) → (i / 512 ≡ p → pos ≤ i → i < pos + size → ⊥) → fileByte new h k i ≡ fileByte w h k i
     laid-off s o =
         let same = still-data laid-still (i / 512) s in
         at-or-off (i / 512) p
@@ -113,7 +113,7 @@ module _ (n e h k pos size : ℕ) (buffer : Bytes) (octets : Octets buffer) (hl 
       }
 
 -- The bytes at EOF and after.
-pub span-next : (e : ℕ) → span e ≤ e / 512 + 1
+span-next : (e : ℕ) → span e ≤ e / 512 + 1
 unfolding span
 span-next e = omega arith
 

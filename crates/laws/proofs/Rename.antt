@@ -1,33 +1,31 @@
 -- Rename of an entry, and of the volume, keeps soundness, and every other file as it was.
-use Prim.Native.Nat.{ℕ, _+_, _-_, _*_, _≤_, _<_, _/_, _%_}
+use Prim.Native.Nat.{ℕ, _+_, _-_, _*_, _≤_, _<_, _/_}
 use mathlib.Core.Path.{_≡_, refl, sym, ap, _∙_}
-use mathlib.Core.List.{List, [], _∷_}
 use mathlib.Core.Option.{Option, none, some}
-use mathlib.Core.Bool.{Bool, true, false, not}
+use mathlib.Core.Bool.{true, false}
 use lib.Dec.{eqb}
 use native.Mathlib.Omega.{arith}
-use native.Mathlib.Nat.{add-zero, add-assoc}
-use borrow.Author.Tests.{eqb-true, eqb-false, eq-eqb, ne-eqb}
-use Rattle.model.specs.Bytes.{Bytes, sum, count, is, ne, unless, put, paste, word, _and_}
-use Rattle.model.specs.Names.{Part, part, parts, properPath, properName, capitalName, nameSize, sameName, alike}
-use Rattle.model.specs.Map.{mapBlocks}
-use Rattle.model.specs.Directory.{Sort, inactive, directory, improper, file, sort, isActive, live, at, volume, volumeBlock, mapPlace, previous, headerKind, headerSlotSize, headerSlots, totalBlocks, activeCount, key, field, access, kids, active, seek}
+use native.Mathlib.Nat.{add-assoc}
+use borrow.Author.Tests.{eqb-true, eq-eqb, ne-eqb}
+use Rattle.model.specs.Bytes.{Bytes, count, is, _and_}
+use Rattle.model.specs.Names.{Part, part, properName, sameName}
+use Rattle.model.specs.Directory.{Sort, inactive, directory, improper, file, sort, isActive, live, at, volume, volumeBlock, mapPlace, activeCount, key, field, kids, seek}
 use Rattle.model.specs.File.{blocks}
-use Rattle.model.specs.Calls.{total, target, spot, home, lastPart, nameField, backedUp}
+use Rattle.model.specs.Calls.{total, target, spot, home, nameField}
 use Rattle.model.specs.Rename.{named, headerNamed, renamed, isOther, nameTaken, renameNumber, rename}
 use Rattle.model.specs.Sound.{sound, twins, faults, prodos}
 use Rattle.model.proofs.ByteLaws.{put-off, paste-at, paste-out, word-same, at-or-off}
 use Rattle.model.proofs.BitLaws.{MapSame, same-free, same-rest}
 use Rattle.model.proofs.SumLaws.{sum-eq}
-use Rattle.laws.proofs.Total.{reach, total-le, total-eq, Edge, root, child}
-use Rattle.laws.proofs.Frame.{at-inj, at-link, at-place, at-head, at-block, Named, Alike, previous-in, twins-same}
-use Rattle.laws.proofs.Sound.{and-left, and-right, deep, top, Sound, sound-facts, facts-sound}
-use Rattle.laws.proofs.Keep.{Keeps, Head, HeadFrom, head-word, head-late, map-same, misnamed, badge, misnamed-same, badge-same, sort-same, sort-named, key-same, blocks-same, kids-same, faults-same}
-use Rattle.laws.proofs.Facts.{Seen, Placed, seen-placed, kid-placed, placed-head, placed-proper, kid-once, mine-apart, directory-key, seen-directory, volume-seen, volume-directory}
+use Rattle.laws.proofs.Total.{total-le, total-eq, Edge, root, child}
+use Rattle.laws.proofs.Frame.{at-inj, Named, previous-in, twins-same}
+use Rattle.laws.proofs.Sound.{and-right, deep, top, Sound, sound-facts, facts-sound}
+use Rattle.laws.proofs.Keep.{Keeps, Head, head-word, map-same, misnamed-same, badge-same, sort-same, sort-named, key-same, blocks-same, content-same, kids-same, faults-same}
+use Rattle.laws.proofs.Facts.{Seen, Placed, seen-placed, kid-placed, placed-proper, kid-once, mine-apart, directory-key, seen-directory, volume-seen, volume-directory}
 use Rattle.laws.proofs.One.{Place, Others, slot-head, file-directory, one-entry}
 use Rattle.laws.proofs.Spelling.{Bears, same-bears, bears-same, bears-capital, bears-alike, alike-bears, alike-back, bears-named, stored, twins-two, twins-change}
 use Rattle.laws.proofs.Relabel.{Marks, marks-step, Relabels, relabel-sound, relabel-others}
-use Rattle.laws.proofs.Lookup.{first-zero, not-false, seek-some, seek-none, name-size, Entry, entry-led, target-led}
+use Rattle.laws.proofs.Lookup.{first-zero, not-false, seek-some, seek-none, name-size, entry-led, target-led}
 use Rattle.laws.proofs.Settled.{settled, others-self}
 
 -- no other active entry has a name that is not taken
@@ -37,8 +35,7 @@ other-free s none e u f = let z : _≡_ {A = ℕ} 0 1 = cc in absurd (omega arit
 other-free s (some t) e u f = let i : t ≡ u = cc in rw (← i) (eqb-true t s (not-false (eqb t s) e))
 
 module _ {n : ℕ} {v : Bytes} {a d : ℕ} (S : Sound n v) (P : Place v a d) (alive : isActive (sort v a) ≡ true)
-  (q : Bytes) (x : Part) (open-name : isOther a (seek v q x (kids v d)) ≡ false) where
-
+    (q : Bytes) (x : Part) (open-name : isOther a (seek v q x (kids v d)) ≡ false) where
   pub name-free : (t : ℕ) → 1 ≤ count t (kids v d) → (t ≡ a → ⊥) → isActive (sort v t) ≡ true → sameName v (at t) q x ≡ true → ⊥
   name-free t c k e f = go (seek v q x (kids v d)) refl
     where
@@ -54,8 +51,7 @@ module _ {n : ℕ} {v : Bytes} {a d : ℕ} (S : Sound n v) (P : Place v a d) (al
 
 -- An entry.
 module _ {n : ℕ} {v : Bytes} {a d : ℕ} (q : Bytes) (j : ℕ) (S : Sound n v) (P : Place v a d) (alive : isActive (sort v a) ≡ true)
-  (proper : properName q 0 j ≡ true) (open-name : isOther a (seek v q (part 0 j) (kids v d)) ≡ false) where
-
+    (proper : properName q 0 j ≡ true) (open-name : isOther a (seek v q (part 0 j) (kids v d)) ≡ false) where
   abbrev now : Bytes
   now = renamed v a q j
 
@@ -90,9 +86,9 @@ module _ {n : ℕ} {v : Bytes} {a d : ℕ} (q : Bytes) (j : ℕ) (S : Sound n v)
   unfolding headerNamed
   now-header e i l =
       let no : (o : ℕ) → o < 16 → at a ≤ key v a * 512 + 4 + o → key v a * 512 + 4 + o < at a + 39 → ⊥ =
-        λ o m p r. slot-head S P a (4 + o) (P .seen) e (omega arith) (omega arith) (omega arith) (omega arith) in
+      λ o m p r. slot-head S P a (4 + o) (P .seen) e (omega arith) (omega arith) (omega arith) (omega arith) in
       let same : once (key v a * 512 + 4) ≡ v (key v a * 512 + 4) =
-        paste-out v (at a) 16 _ (key v a * 512 + 4) (λ p r. no 0 (omega arith) (omega arith) (omega arith)) in
+      paste-out v (at a) 16 _ (key v a * 512 + 4) (λ p r. no 0 (omega arith) (omega arith) (omega arith)) in
       now-is (key v a * 512 + 4 + i) (λ f. no i l (omega arith) (omega arith))
       ∙ rw (e, ← same) (paste-at once (key v a * 512 + 4) 16 _ i l)
 
@@ -112,14 +108,15 @@ module _ {n : ℕ} {v : Bytes} {a d : ℕ} (q : Bytes) (j : ℕ) (S : Sound n v)
   now-unlike : twins now (kids v d) ≡ 0
   now-unlike =
       let kept : (t : ℕ) → 1 ≤ count t (kids v d) → (t ≡ a → ⊥) → (sort now t ≡ sort v t) × Named v now (at t) =
-        λ t c k. one-entry (marks-step now-marks) d t (P .home) c k in
+      λ t c k. one-entry (marks-step now-marks) d t (P .home) c k in
       let free : (t : ℕ) → 1 ≤ count t (kids v d) → (t ≡ a → ⊥) → isActive (sort v t) ≡ true → Bears now (at t) q (part 0 j) → ⊥ =
-        λ t c k e B. name-free S P alive q (part 0 j) open-name t c k e
-        (bears-same v (at t) q (part 0 j) (bears-named v now (at t) q (part 0 j) size (kept t c k .1) B)) in
+      λ t c k e B. name-free S P alive q (part 0 j) open-name t c k e
+      (bears-same v (at t) q (part 0 j) (bears-named v now (at t) q (part 0 j) size (kept t c k .1) B)) in
       twins-change v now a (kids v d) (omega (arith, kid-once S d a (P .home) (P .inside))) kept
-      (λ t c k _ e.
-        (λ f. free t c k e (alike-bears now (at a) q (part 0 j) (at t) f (entry-bears .0)),
-          λ f. free t c k e (alike-back now (at a) q (part 0 j) (at t) f (entry-bears .0))))
+      (λ t c k _ e. (
+        λ f. free t c k e (alike-bears now (at a) q (part 0 j) (at t) f (entry-bears .0)),
+        λ f. free t c k e (alike-back now (at a) q (part 0 j) (at t) f (entry-bears .0)),
+      ))
       (seen-directory S d (P .home) (P .holds) .unlike)
 
   pub now-relabels : Relabels n v now a d
@@ -129,7 +126,7 @@ module _ {n : ℕ} {v : Bytes} {a d : ℕ} (q : Bytes) (j : ℕ) (S : Sound n v)
         sorted = sort-same v now a (entry-bears .1);
         named = rw (bears-capital now (at a) q (part 0 j) (entry-bears .0) proper) (omega arith);
         badged = λ e.
-          rw (bears-alike now (key v a * 512 + 4) q (part 0 j) (at a) (header-bears e .0) (entry-bears .0), header-bears e .1) (omega arith);
+            rw (bears-alike now (key v a * 512 + 4) q (part 0 j) (at a) (header-bears e .0) (entry-bears .0), header-bears e .1) (omega arith);
         unlike = now-unlike;
       }
 
@@ -188,12 +185,13 @@ module _ {n : ℕ} {v : Bytes} (q : Bytes) (j : ℕ) (S : Sound n v) (proper : p
       (λ z. omega (arith, misnamed-same v after x (after-name x (seen-placed S x h z) .1))))
       (λ f z. omega (arith, badge-same v after x (key v x) (after-name x (seen-placed S x h z) .1) (after-head x h f z)))
       (λ f.
-        let inside : (s : ℕ) → 1 ≤ count s (kids v x) → (sort after s ≡ sort v s) × Named v after (at s) = λ s c. after-name s (kid-placed S x s h c) in
-        rw
-        (sum-eq (λ s. live (sort after s)) (λ s. live (sort v s)) (kids v x) (λ s c. ap live (inside s c .0)),
-          twins-same v after (kids v x) inside,
-          after-count x)
-        (omega arith))
+      let inside : (s : ℕ) → 1 ≤ count s (kids v x) → (sort after s ≡ sort v s) × Named v after (at s) = λ s c. after-name s (kid-placed S x s h c) in
+      rw (
+        sum-eq (λ s. live (sort after s)) (λ s. live (sort v s)) (kids v x) (λ s c. ap live (inside s c .0)),
+        twins-same v after (kids v x) inside,
+        after-count x,
+      )
+      (omega arith))
     where
       after-count : (x : ℕ) → activeCount after (key v x) ≡ activeCount v (key v x)
       after-count x =
@@ -208,13 +206,14 @@ module _ {n : ℕ} {v : Bytes} (q : Bytes) (j : ℕ) (S : Sound n v) (proper : p
   unfolding prodos at
   after-sign =
       let one : (k : ℕ) → k < 512 → (4 ≤ k → k < 20 → ⊥) → after (volumeBlock * 512 + k) ≡ v (volumeBlock * 512 + k) =
-        λ k l f. after-block volumeBlock k l (λ _. f) in
-      rw
-      (previous-in v after volumeBlock (λ k l. one k (omega arith) (λ p r. omega arith)),
+      λ k l f. after-block volumeBlock k l (λ _. f) in
+      rw (
+        previous-in v after volumeBlock (λ k l. one k (omega arith) (λ p r. omega arith)),
         after-bears .1,
         one 0x23 (omega arith) (λ p r. omega arith),
         one 0x24 (omega arith) (λ p r. omega arith),
-        head-word v after volumeBlock 0x29 (λ k g l _. one k (omega arith) (λ p r. omega arith)) (omega arith) (omega arith) (λ p r. omega arith))
+        head-word v after volumeBlock 0x29 (λ k g l _. one k (omega arith) (λ p r. omega arith)) (omega arith) (omega arith) (λ p r. omega arith),
+      )
       refl
 
   after-map : MapSame mapPlace n v after
@@ -227,17 +226,19 @@ module _ {n : ℕ} {v : Bytes} (q : Bytes) (j : ℕ) (S : Sound n v) (proper : p
         small = S .small;
         sign = after-sign ∙ S .sign;
         place = map-same v after (λ k g l _. after-block volumeBlock k (omega arith) (λ _ p r. omega arith)) ∙ S .place;
-        right = omega
-          (arith,
-            S .right,
-            total-le (kids v) (kids after) (faults n v) (faults n after) deep volume top
-            (λ m r x h e. (kids-same v after x (after-keeps x h), after-faults m r x h (edge-key r x e))));
+        right = omega (
+          arith,
+          S .right,
+          total-le (kids v) (kids after) (faults n v) (faults n after) deep volume top
+              (λ m r x h e. (kids-same v after x (after-keeps x h), after-faults m r x h (edge-key r x e))),
+        );
         once = λ b l.
-          rw
-          (total-eq (kids v) (kids after) (λ _ _ s. count b (blocks v s)) (λ _ _ s. count b (blocks after s)) deep volume top
-            (λ m r x h. (kids-same v after x (after-keeps x h), ap (count b) (blocks-same v after x (after-keeps x h)))),
-            same-free mapPlace n v after after-map b l)
-          (S .once b l);
+            rw (
+              total-eq (kids v) (kids after) (λ _ _ s. count b (blocks v s)) (λ _ _ s. count b (blocks after s)) deep volume top
+                  (λ m r x h. (kids-same v after x (after-keeps x h), ap (count b) (blocks-same v after x (after-keeps x h)))),
+              same-free mapPlace n v after after-map b l,
+            )
+            (S .once b l);
         rest = same-rest mapPlace n v after after-map (S .rest);
       }
 
@@ -250,6 +251,7 @@ module _ {n : ℕ} {v : Bytes} (q : Bytes) (j : ℕ) (S : Sound n v) (proper : p
         sorted = K .sorted;
         owns = blocks-same v after x K;
         bytes = K .trees h e;
+        reads = content-same v after x K h e;
       }
 
 -- The call.
@@ -275,9 +277,9 @@ module _ (len : ℕ) (v p : Bytes) (k : ℕ) (q : Bytes) (j : ℕ) (S : sound (t
       at-or-off there volume
       (λ z. rw (whole z) (facts-sound (after-sound q j facts proper), rw z (after-others q j facts proper)))
       (λ z.
-        let E = entry-led facts (target-led facts p k) (r₄ .0) (r₅ .0) (r₆ .0) z in
-        let R = now-relabels q j facts (E .spot) (E .alive) proper (open-name z (r₇ .0)) in
-        (facts-sound (relabel-sound R), relabel-others R))
+      let E = entry-led facts (target-led facts p k) (r₄ .0) (r₅ .0) (r₆ .0) z in
+      let R = now-relabels q j facts (E .spot) (E .alive) proper (open-name z (r₇ .0)) in
+      (facts-sound (relabel-sound R), relabel-others R))
     where
       whole : there ≡ volume → renamed v there q j ≡ named v (at volume) q j
       whole z = unfold renamed in rw (eq-eqb there volume z, renamed) refl

@@ -1,17 +1,17 @@
 -- Soundness as a record of plain facts, and that the record and the test `sound` say the same.
-use Prim.Native.Nat.{ℕ, zero, suc, _+_, _-_, _*_, _≤_, _<_}
-use mathlib.Core.Path.{_≡_, refl, sym, ap, _∙_}
-use mathlib.Core.List.{List, [], _∷_, _++_}
+use Prim.Native.Nat.{ℕ, zero, suc, _+_, _≤_, _<_}
+use mathlib.Core.Path.{_≡_, refl, sym, _∙_}
+use mathlib.Core.List.{List, [], _∷_}
 use mathlib.Core.Bool.{Bool, true, false, false≢true}
-use lib.Dec.{leb, ltb, eqb}
+use lib.Dec.{eqb}
 use native.Mathlib.Omega.{arith}
 use borrow.Author.Tests.{eqb-true, eqb-false, eq-eqb, leb-true, le-leb}
-use Rattle.model.specs.Bytes.{Bytes, sum, count, gather, run, is, one-if, ne, within, _and_}
+use Rattle.model.specs.Bytes.{Bytes, sum, count, gather, run, is, within, _and_}
 use Rattle.model.specs.Map.{mapBlocks, free, restClear}
-use Rattle.model.specs.Directory.{Sort, directory, sort, mapBlock, mapPlace, volume, volumeChain, key, used, chain, kids}
+use Rattle.model.specs.Directory.{directory, sort, mapBlock, mapPlace, volume, volumeChain, key, used, chain, kids}
 use Rattle.model.specs.File.{blocks}
-use Rattle.model.specs.Walk.{levelMost, Visit, visits}
-use Rattle.model.specs.Sound.{properSize, prodos, differ, volumeFaults, topFaults, directoryFaults, faultsOf, faults, owned, eachOnce, faultless, sound}
+use Rattle.model.specs.Walk.{levelMost, visits}
+use Rattle.model.specs.Sound.{prodos, differ, volumeFaults, topFaults, directoryFaults, faultsOf, faults, owned, eachOnce, faultless, sound}
 use Rattle.model.proofs.SumLaws.{is-eq, sum-append, sum-gather}
 use Rattle.laws.proofs.Total.{Weight, total, visits-total, reach-down}
 
@@ -105,11 +105,12 @@ owners : (n : ℕ) (v : Bytes) (b : ℕ) → mapBlock v ≡ mapPlace → count b
 unfolding owned sum
 owners n v b e =
     rw e
-    (omega
-    (arith,
+    (omega (
+      arith,
       sum-append (is b) (run mapPlace (mapBlocks n)) (gather (λ w. blocks v (w .slot)) (visits v)),
       sum-gather (is b) (λ w. blocks v (w .slot)) (visits v),
-      visits-total (kids v) (λ _ _ s. count b (blocks v s)) deep volume top))
+      visits-total (kids v) (λ _ _ s. count b (blocks v s)) deep volume top,
+    ))
 
 -- The two say the same.
 pub sound-facts : (n : ℕ) (v : Bytes) → sound n v ≡ true → Sound n v

@@ -1,15 +1,15 @@
 -- Names as they are given and as they are stored, and twins where one entry of a directory has another name.
-use Prim.Native.Nat.{ℕ, zero, suc, _+_, _-_, _*_, _≤_, _<_, _/_, _%_}
+use Prim.Native.Nat.{ℕ, zero, suc, _+_, _-_, _*_, _≤_, _<_, _/_}
 use mathlib.Core.Path.{_≡_, refl, sym, ap, _∙_}
 use mathlib.Core.List.{List, [], _∷_, _++_}
 use mathlib.Core.Bool.{Bool, true, false, false≢true}
-use lib.Dec.{leb, ltb, eqb}
+use lib.Dec.{eqb}
 use native.Mathlib.Omega.{arith}
 use native.Mathlib.Nat.{add-zero, add-assoc}
-use borrow.Author.Tests.{eqb-true, eqb-false, eq-eqb, leb-true, le-leb, leb-false, lt-leb}
-use Rattle.model.specs.Bytes.{Bytes, sum, count, is, one-if, put, paste, from, zeros, within, equalBytes, _and_, _or_}
+use borrow.Author.Tests.{eqb-true, eqb-false, eq-eqb, leb-true, le-leb}
+use Rattle.model.specs.Bytes.{Bytes, sum, count, is, one-if, from, zeros, within, equalBytes, _and_, _or_}
 use Rattle.model.specs.Names.{Part, nameMost, capital, capitals, letter, nameByte, nameBytes, properName, nameSize, capitalName, sameName, alike}
-use Rattle.model.specs.Directory.{Sort, sort, isActive, at}
+use Rattle.model.specs.Directory.{sort, isActive, at}
 use Rattle.model.specs.Sound.{twinsOf, twins}
 use Rattle.model.specs.Calls.{nameField}
 use Rattle.model.proofs.ByteLaws.{put-at, put-off, paste-in, equal-at, equal-all}
@@ -41,6 +41,13 @@ capital-small c e = rw (e, capital) refl
 capital-other : (c : ℕ) → within 97 122 c ≡ false → capital c ≡ c
 unfolding capital
 capital-other c e = rw (e, capital) refl
+
+pub capital-most : (c : ℕ) → capital c ≤ c
+capital-most c = go (within 97 122 c) refl
+  where
+    go : (b : Bool) → within 97 122 c ≡ b → capital c ≤ c
+    go true e = rw (capital-small c e) (omega arith)
+    go false e = rw (capital-other c e) (omega arith)
 
 capital-twice : (c : ℕ) → capital (capital c) ≡ capital c
 capital-twice c = go (within 97 122 c) refl
@@ -165,6 +172,13 @@ bears-named v v′ b q x s f B =
       spelled = λ i l. sym (rw (add-assoc b 1 i) (f (1 + i) (omega arith))) ∙ B .spelled i l;
     }
 
+pub alike-sym : (v : Bytes) (a b : ℕ) → alike v a b ≡ true → alike v b a ≡ true
+unfolding alike
+alike-sym v a b e =
+    let s : nameSize v a ≡ nameSize v b = eqb-true _ _ (and-left _ _ e) in
+    and-both (eqb (nameSize v b) (nameSize v a)) (equalBytes v (b + 1) v (a + 1) (nameSize v b)) (eq-eqb _ _ (sym s))
+    (rw (← s) (equal-all v (b + 1) v (a + 1) (nameSize v a) (λ i l. sym (equal-at v (a + 1) v (b + 1) (nameSize v a) (and-right _ _ e) i l))))
+
 -- Twins.
 not-both : (p q : Bool) → (p ≡ true → q ≡ true → ⊥) → one-if (p and q) ≡ 0
 unfolding _and_
@@ -254,16 +268,16 @@ twins-change v v′ a (s ∷ ss) once f g z = go (eqb s a) refl (twins-change v 
         let far : (t : ℕ) → 1 ≤ count t ss → t ≡ a → ⊥ = λ t c q. omega (arith, rw q at c) in
         pick (isActive (sort v′ s)) (twinsOf v′ s ss) (twins v′ ss)
         (λ h.
-          sum-zero _ ss (λ t c. not-both _ _ (λ p q.
-            g t (omega arith) (far t c) (rw (← i) h) (rw (← f t (omega arith) (far t c) .0) p) .0 (rw (← i) q))))
+        sum-zero _ ss (λ t c. not-both _ _ (λ p q.
+        g t (omega arith) (far t c) (rw (← i) h) (rw (← f t (omega arith) (far t c) .0) p) .0 (rw (← i) q))))
         (twins-same v v′ ss (λ t c. f t (omega arith) (far t c)) ∙ old .1)
     go false e r =
         let k = eqb-false s a e in
         let here = f s (omega (arith, is-self s)) k in
         pick (isActive (sort v′ s)) (twinsOf v′ s ss) (twins v′ ss)
         (λ h.
-          let h′ : isActive (sort v s) ≡ true = rw (← here .0) h in
-          sum-zero _ ss (λ t c. each t c h′ (eqb t a) refl (here .1) (g s (omega (arith, is-self s)) k) (old .0 h′)))
+        let h′ : isActive (sort v s) ≡ true = rw (← here .0) h in
+        sum-zero _ ss (λ t c. each t c h′ (eqb t a) refl (here .1) (g s (omega (arith, is-self s)) k) (old .0 h′)))
         (r (omega arith) (λ t c. f t (omega arith)) (λ t c. g t (omega arith)) (old .1))
       where
         each : (t : ℕ) → 1 ≤ count t ss → isActive (sort v s) ≡ true → (b : Bool) → eqb t a ≡ b → Named v v′ (at s)

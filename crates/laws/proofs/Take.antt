@@ -54,7 +54,7 @@ module _ {n : ℕ} {w : Bytes} {h q k : ℕ} (F : Fit n w (suc h) q k) (i z : �
   key-off : Off n k
   key-off = fit-off F k (has-key w (suc h) q k)
 
-  pub hung-pointer : (j : ℕ) → j < 256 → (j ≡ i → ⊥) → pointer hung k j ≡ pointer w k j
+  hung-pointer : (j : ℕ) → j < 256 → (j ≡ i → ⊥) → pointer hung k j ≡ pointer w k j
   hung-pointer j l d =
       pointer-other (taken mapPlace w z) k i z j il l d
       ∙ pointer-in w (taken mapPlace w z) k j (taken-alike n w z zn k key-z key-off) l
@@ -83,7 +83,7 @@ module _ {n : ℕ} {w : Bytes} {h q k : ℕ} (F : Fit n w (suc h) q k) (i z : �
             hung-kept b (free-out F z zn zf b some) (fit-off F b some) (λ e. omega (arith, F .apart b (F .range b some), is-yes b k e))))),
       )
 
-  pub hung-move : Move n w (suc h) q k hung (suc h) q k
+  hung-move : Move n w (suc h) q k hung (suc h) q k
   hung-move =
       record {
         bytes = tied-bytes F z zn zf k i z il;
@@ -101,17 +101,17 @@ module _ {n : ℕ} {w : Bytes} {h k : ℕ} (F : Fit n w h 0 k) (z : ℕ) (zn : z
   pub topped-kept : (b : ℕ) → (b ≡ z → ⊥) → Off n b → Alike 512 w risen b
   topped-kept b e m = tied-kept F z zn zf z 0 k (omega arith) b e m e
 
-  pub topped-at : pointer risen z 0 ≡ k
+  topped-at : pointer risen z 0 ≡ k
   topped-at = pointer-at (taken mapPlace w z) z 0 k (omega (arith, fit-key F, F .small))
 
-  pub topped-other : (j : ℕ) → j < 256 → (j ≡ 0 → ⊥) → pointer risen z j ≡ 0
+  topped-other : (j : ℕ) → j < 256 → (j ≡ 0 → ⊥) → pointer risen z j ≡ 0
   topped-other j l d =
       pointer-other (taken mapPlace w z) z 0 k j (omega arith) l d ∙ pointer-blank (taken mapPlace w z) z j (taken-blank n w z zn) l
 
-  pub topped-full : pointer risen z 0 ≡ 0 → ⊥
+  topped-full : pointer risen z 0 ≡ 0 → ⊥
   topped-full e = fit-some F k (has-key w h 0 k) (sym topped-at ∙ e)
 
-  pub topped-below : (g : Gauge) → weigh g risen h 0 k ≡ weigh g w h 0 k
+  topped-below : (g : Gauge) → weigh g risen h 0 k ≡ weigh g w h 0 k
   topped-below g = weigh-same g w risen h 0 k (λ b t. topped-kept b (free-out F z zn zf b t) (fit-off F b t))
 
   pub topped-weigh : (g : Gauge) → weigh g risen (suc h) 0 z ≡ g (suc h) 0 z + weigh g w h 0 k
@@ -182,7 +182,7 @@ hung-work {w = w} {h} {q} {k} e F i z il hole zn zf l =
     }
 
 -- below a pointer
-pub work-lift : {n : ℕ} {w : Bytes} {h q k i : ℕ} {e : ℕ} {w′ : Bytes} (F : Fit n w (suc h) q k) (il : i < 256) (full : pointer w k i ≡ 0 → ⊥)
+work-lift : {n : ℕ} {w : Bytes} {h q k i : ℕ} {e : ℕ} {w′ : Bytes} (F : Fit n w (suc h) q k) (il : i < 256) (full : pointer w k i ≡ 0 → ⊥)
     → Work n e w h (q * 256 + i) (pointer w k i) w′ h (q * 256 + i) (pointer w k i) → Work n e w (suc h) q k w′ (suc h) q k
 work-lift {w = w} {h} {q} {k} {i} {e} F il full A =
     record {

@@ -1,16 +1,16 @@
 -- Sums over the walk of a tree of slots. A weight is a number for each level, parent and slot.
-use Prim.Native.Nat.{ℕ, zero, suc, _+_, _-_, _*_, _≤_}
-use mathlib.Core.Path.{_≡_, refl, sym, ap, _∙_, fun-ext}
-use mathlib.Core.List.{List, [], _∷_, _++_, map}
+use Prim.Native.Nat.{ℕ, zero, suc, _+_, _*_, _≤_}
+use mathlib.Core.Path.{_≡_, refl, sym, ap, _∙_}
+use mathlib.Core.List.{List, [], _∷_}
 use mathlib.Core.Bool.{Bool, true, false}
 use lib.Dec.{eqb}
 use borrow.Author.Tests.{eqb-true, eqb-false}
 use native.Mathlib.Omega.{arith}
-use native.Mathlib.Nat.{add-mul, zero-mul, mul-le-mul-right}
-use Rattle.model.specs.Bytes.{sum, count, gather, is, one-if}
-use Rattle.model.specs.Walk.{Visit, visit, walk}
-use Rattle.model.proofs.BitLaws.{is-no, is-most}
-use Rattle.model.proofs.SumLaws.{is-self, sum-append, sum-add, sum-scale, sum-ext, sum-map, sum-gather, sum-le, sum-eq, sum-zero, sum-mem, sum-none}
+use native.Mathlib.Nat.{add-mul, mul-le-mul-right}
+use Rattle.model.specs.Bytes.{sum, count, is, one-if}
+use Rattle.model.specs.Walk.{visit, walk}
+use Rattle.model.proofs.BitLaws.{is-no}
+use Rattle.model.proofs.SumLaws.{is-self, sum-add, sum-scale, sum-ext, sum-map, sum-gather, sum-le, sum-zero, sum-mem, sum-none}
 
 abbrev pub Weight : Type 0
 Weight = ℕ → ℕ → ℕ → ℕ
@@ -52,13 +52,13 @@ total-le kids kids′ w w′ zero p ss f = sum-le _ _ ss (λ s k. f 0 p s k (roo
 total-le kids kids′ w w′ (suc l) p ss f =
     sum-le _ _ ss
     (λ s k.
-      let down : (x : ℕ) → is x s + reach kids x l s (kids s) ≤ reach kids x (suc l) p ss = λ x. reach-down kids (λ _ _ y. is x y) l p s ss k in
-      let met : 1 ≤ reach kids s (suc l) p ss = omega (arith, is-self s, down s) in
-      let edge : (q x : ℕ) → Edge kids l s (kids s) q x → Edge kids (suc l) p ss q x =
-        λ q x. elim [ root e c ↦ child (rw e met) (rw e c) | child r c ↦ child (omega (arith, down q)) c ] in
-      let here = f (suc l) p s met (root refl k) in
-      let below = total-le kids kids′ w w′ l s (kids s) (λ m q x h e. f m q x (omega (arith, down x)) (edge q x e)) in
-      rw (here .0) (omega (arith, here .1, below)))
+    let down : (x : ℕ) → is x s + reach kids x l s (kids s) ≤ reach kids x (suc l) p ss = λ x. reach-down kids (λ _ _ y. is x y) l p s ss k in
+    let met : 1 ≤ reach kids s (suc l) p ss = omega (arith, is-self s, down s) in
+    let edge : (q x : ℕ) → Edge kids l s (kids s) q x → Edge kids (suc l) p ss q x =
+    λ q x. elim [ root e c ↦ child (rw e met) (rw e c) | child r c ↦ child (omega (arith, down q)) c ] in
+    let here = f (suc l) p s met (root refl k) in
+    let below = total-le kids kids′ w w′ l s (kids s) (λ m q x h e. f m q x (omega (arith, down x)) (edge q x e)) in
+    rw (here .0) (omega (arith, here .1, below)))
 
 -- the same slots below each slot, and no larger weights
 pub weight-le : (kids : ℕ → List ℕ) (w w′ : Weight) (l p : ℕ) (ss : List ℕ) → ((m q x : ℕ) → w′ m q x ≤ w m q x)
@@ -70,11 +70,12 @@ pub total-eq : (kids kids′ : ℕ → List ℕ) (w w′ : Weight) (l p : ℕ) (
     → total kids′ w′ l p ss ≡ total kids w l p ss
 total-eq kids kids′ w w′ l p ss f =
     let same : (x : ℕ) → reach kids′ x l p ss ≤ reach kids x l p ss =
-      λ x. total-le kids kids′ _ _ l p ss (λ m q y h e. (f m q y h .0, omega arith)) in
-    omega
-    (arith,
+    λ x. total-le kids kids′ _ _ l p ss (λ m q y h e. (f m q y h .0, omega arith)) in
+    omega (
+      arith,
       total-le kids kids′ w w′ l p ss (λ m q x h e. (f m q x h .0, omega (arith, f m q x h .1))),
-      total-le kids′ kids w′ w l p ss (λ m q x h e. let g = f m q x (omega (arith, same x)) in (sym (g .0), omega (arith, g .1))))
+      total-le kids′ kids w′ w l p ss (λ m q x h e. let g = f m q x (omega (arith, same x)) in (sym (g .0), omega (arith, g .1))),
+    )
 
 pub total-add : (kids : ℕ → List ℕ) (u w : Weight) (l p : ℕ) (ss : List ℕ)
     → total kids (λ m q x. u m q x + w m q x) l p ss ≡ total kids u l p ss + total kids w l p ss
@@ -112,11 +113,12 @@ pub reach-le : (kids : ℕ → List ℕ) (c : Weight) (x l p : ℕ) (ss : List �
 unfolding total
 reach-le kids c x zero p ss f = omega arith
 reach-le kids c x (suc l) p ss f =
-    omega
-    (arith,
+    omega (
+      arith,
       sum-add (is x) (λ s. c (suc l) p s + total kids c l s (kids s)) ss,
       sum-le (λ s. is x s + reach kids x l s (kids s)) (λ s. is x s + (c (suc l) p s + total kids c l s (kids s))) ss
-      (λ s k. omega (arith, f (suc l) p s, reach-le kids c x l s (kids s) f)))
+          (λ s k. omega (arith, f (suc l) p s, reach-le kids c x l s (kids s) f)),
+    )
 
 is-mul : (x y : ℕ) (w : ℕ → ℕ) → is x y * w x ≤ w y
 is-mul x y w = go (eqb x y) refl
@@ -137,12 +139,13 @@ pub total-two : (kids : ℕ → List ℕ) (w : ℕ → ℕ) (x y l p : ℕ) (ss 
 total-two kids w x y l p ss n h k =
     let hx : 1 * w x ≤ total kids (λ _ _ s. is x s) l p ss * w x = mul-le-mul-right (w x) h in
     let hy : 1 * w y ≤ total kids (λ _ _ s. is y s) l p ss * w y = mul-le-mul-right (w y) k in
-    omega
-    (arith,
+    omega (
+      arith,
       total-scale kids (λ _ _ s. is x s) (w x) l p ss,
       total-scale kids (λ _ _ s. is y s) (w y) l p ss,
       total-add kids (λ _ _ s. is x s * w x) (λ _ _ s. is y s * w y) l p ss,
-      weight-le kids (λ _ _ s. w s) (λ _ _ s. is x s * w x + is y s * w y) l p ss (λ m q z. two-mul-le z))
+      weight-le kids (λ _ _ s. w s) (λ _ _ s. is x s * w x + is y s * w y) l p ss (λ m q z. two-mul-le z),
+    )
   where
     two-mul-le : (z : ℕ) → is x z * w x + is y z * w y ≤ w z
     two-mul-le z = go (eqb x z) refl
@@ -157,13 +160,14 @@ pub total-change : (kids kids′ : ℕ → List ℕ) (w w′ : ℕ → ℕ) (a l
     → total kids′ (λ _ _ s. w′ s) l p ss + w a ≡ total kids (λ _ _ s. w s) l p ss + w′ a
 total-change kids kids′ w w′ a l p ss once f g =
     let once′ : reach kids′ a l p ss ≡ 1 = total-eq kids kids′ (λ _ _ s. is a s) (λ _ _ s. is a s) l p ss (λ m q x h. (f x h, refl)) ∙ once in
-    omega
-    (arith,
+    omega (
+      arith,
       total-eq kids kids′ (λ _ _ s. w s + is a s * w′ a) (λ _ _ s. w′ s + is a s * w a) l p ss (λ m q x h. (f x h, at-a x h (eqb a x) refl)),
       total-add kids (λ _ _ s. w s) (λ _ _ s. is a s * w′ a) l p ss,
       total-add kids′ (λ _ _ s. w′ s) (λ _ _ s. is a s * w a) l p ss,
       rw once at (total-scale kids (λ _ _ s. is a s) (w′ a) l p ss),
-      rw once′ at (total-scale kids′ (λ _ _ s. is a s) (w a) l p ss))
+      rw once′ at (total-scale kids′ (λ _ _ s. is a s) (w a) l p ss),
+    )
   where
     at-a : (x : ℕ) → 1 ≤ reach kids x l p ss → (b : Bool) → eqb a x ≡ b → w′ x + one-if b * w a ≡ w x + one-if b * w′ a
     at-a x h true e = rw (eqb-true a x e) (omega arith)

@@ -18,7 +18,7 @@ unfoldable pub upto : ℕ → (ℕ → ℕ) → ℕ
 upto zero f = 0
 upto (suc c) f = upto c f + f c
 
-pub upto-le : (c : ℕ) (f g : ℕ → ℕ) → ((i : ℕ) → i < c → f i ≤ g i) → upto c f ≤ upto c g
+upto-le : (c : ℕ) (f g : ℕ → ℕ) → ((i : ℕ) → i < c → f i ≤ g i) → upto c f ≤ upto c g
 unfolding upto
 upto-le zero f g h = omega arith
 upto-le (suc c) f g h = omega (arith, h c (omega arith), upto-le c f g (λ i l. h i (omega arith)))
@@ -54,7 +54,7 @@ upto-one (suc c) i f g l h = go (eqb i c) refl (upto-one c i f g)
         let p = eqb-false i c e in
         omega (arith, r (omega arith) (λ j k. h j (omega arith)), h c (omega arith) (λ q. p (sym q)))
 
-pub upto-mem : (c i : ℕ) (f : ℕ → ℕ) → i < c → f i ≤ upto c f
+upto-mem : (c i : ℕ) (f : ℕ → ℕ) → i < c → f i ≤ upto c f
 unfolding upto
 upto-mem zero i f l = absurd (omega arith)
 upto-mem (suc c) i f l = go (eqb i c) refl (upto-mem c i f)
@@ -63,7 +63,7 @@ upto-mem (suc c) i f l = go (eqb i c) refl (upto-mem c i f)
     go true e r = rw (eqb-true i c e) (omega arith)
     go false e r = let p = eqb-false i c e in omega (arith, r (omega arith))
 
-pub upto-two : (c i j : ℕ) (f : ℕ → ℕ) → i < c → j < c → (i ≡ j → ⊥) → f i + f j ≤ upto c f
+upto-two : (c i j : ℕ) (f : ℕ → ℕ) → i < c → j < c → (i ≡ j → ⊥) → f i + f j ≤ upto c f
 unfolding upto
 upto-two zero i j f k l n = absurd (omega arith)
 upto-two (suc c) i j f k l n = go (eqb i c) refl (eqb j c) refl (upto-two c i j f)
