@@ -18,6 +18,5 @@ pub mod Fresh
 pub mod Create
 pub mod Extend
 pub mod Created
-pub mod Refile
 pub mod Octet
 pub mod Format

@@ -1,6 +1,6 @@
 -- What the calls leave is bytes again, each below 256: so calls may follow one another. (Destroy has it in Destroy.antt.)
 use Prim.Native.Nat.{ℕ, _+_, _*_, _<_, _/_}
-use mathlib.Core.Path.{_≡_}
+use mathlib.Core.Path.{_≡_, refl}
 use mathlib.Core.Option.{Option, none, some}
 use mathlib.Core.Bool.{Bool, true, false}
 use lib.Dec.{eqb}
@@ -20,7 +20,7 @@ use Rattle.model.proofs.ByteLaws.{octets-put, octets-paste, octets-putWord, oct
 use Rattle.model.proofs.BitLaws.{taken-octets}
 use Rattle.laws.proofs.Sound.{and-right, sound-facts}
 use Rattle.laws.proofs.Spelling.{capital-most}
-use Rattle.laws.proofs.Lookup.{first-zero, not-false, name-size, path-last, open-led, target-led}
+use Rattle.laws.proofs.Lookup.{rows-off, not-false, name-size, path-last, open-led, target-led}
 use Rattle.laws.proofs.Created.{Wants, want-file, want-directory, wants}
 use Rattle.laws.proofs.Settled.{settled}
 
@@ -78,10 +78,8 @@ unfolding rename renameNumber
 rename-octets len v p k q j o h =
     settled _ _ v _ _ Octets o
     (λ e.
-    let r₁ = first-zero _ _ e (λ z. omega arith) in
-    let r₂ = first-zero _ _ (r₁ .1) (λ z. omega arith) in
-    let r₃ = first-zero _ _ (r₂ .1) (λ z. omega arith) in
-    renamed-octets v _ q j o h (name-size q 0 j (and-right _ _ (not-false _ (r₃ .0)))))
+    let r = rows-off _ e refl in
+    renamed-octets v _ q j o h (name-size q 0 j (and-right _ _ (not-false _ (r 2)))))
 
 -- create
 module _ (p : Bytes) (x : Part) (w : Wanted) (path : Octets p) (kind : w .kind < 16) (typed : w .ftype < 256) (short : x .size < 16) where
@@ -136,17 +134,10 @@ create-octets len v p k w o path typed S =
     settled _ _ v _ _ Octets o
     (λ e.
     let facts = sound-facts (total len) v S in
-    let r₁ = first-zero _ _ e (λ z. omega arith) in
-    let r₂ = first-zero _ _ (r₁ .1) (λ z. omega arith) in
-    let r₃ = first-zero _ _ (r₂ .1) (λ z. omega arith) in
-    let r₄ = first-zero _ _ (r₃ .1) (λ z. omega arith) in
-    let r₅ = first-zero _ _ (r₄ .1) (λ z. omega arith) in
-    let r₆ = first-zero _ _ (r₅ .1) (λ z. omega arith) in
-    let r₇ = first-zero _ _ (r₆ .1) (λ z. omega arith) in
-    let r₈ = first-zero _ _ (r₇ .1) (λ z. omega arith) in
-    let O = open-led (target-led facts p k) (r₆ .0) (r₇ .0) (r₈ .0) in
-    created-octets p (lastPart (parts p k)) w path (low (wants w (not-false _ (r₄ .0)) (r₅ .0))) typed
-    (name-size p _ _ (path-last p k (not-false _ (r₃ .0)) (omega (arith, O .depth))))
+    let r = rows-off _ e refl in
+    let O = open-led (target-led facts p k) (r 5) (r 6) (r 7) in
+    created-octets p (lastPart (parts p k)) w path (low (wants w (not-false _ (r 3)) (r 4))) typed
+    (name-size p _ _ (path-last p k (not-false _ (r 2)) (omega (arith, O .depth))))
     (mapBlock v) (total len) v (home (target v p k)) o)
   where
     low : Wants w → w .kind < 16
