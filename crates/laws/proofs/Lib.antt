@@ -20,3 +20,4 @@ pub mod Extend
 pub mod Created
 pub mod Octet
 pub mod Format
+pub mod Sequence
