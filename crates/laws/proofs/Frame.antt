@@ -9,7 +9,7 @@ use native.Mathlib.Omega.{arith}
 use native.Mathlib.Nat.{add-zero, add-assoc}
 use borrow.Author.Tests.{eqb-false, ltb-true, ltb-false}
 use Rattle.model.specs.Bytes.{Bytes, sum, count, gather, run, is, one-if, word}
-use Rattle.model.specs.Names.{nameByte, nameBytes, properName, capital, nameSize, capitalName, alike}
+use Rattle.model.specs.Names.{nameByte, nameBytes, properName, capital, capitalName, alike}
 use Rattle.model.specs.Directory.{at, previous, next, chain, slots, sort, isActive}
 use Rattle.model.specs.File.{Node, node, pointer, limb, nodes, blocksIn, above, dataBlock, fileByte}
 use Rattle.model.specs.Sound.{links, twinsOf, twins}
@@ -273,11 +273,12 @@ capitalName-same v v′ a f =
     let z : v′ a ≡ v a = rw add-zero at (f 0 (omega arith)) in
     let k = v a % 16 in
     let g : (i : ℕ) → i < k → v′ (a + 1 + i) ≡ v (a + 1 + i) = λ i l. rw (add-assoc a 1 i) (f (1 + i) (omega arith)) in
-    rw
-    (z,
+    rw (
+      z,
       f 1 (omega arith),
       nameBytes-same v v′ (a + 1) k g,
-      equal-cong v′ (a + 1) (λ i. capital (v′ i)) (a + 1) k v (a + 1) (λ i. capital (v i)) (a + 1) g (λ i l. ap capital (g i l)))
+      equal-cong v′ (a + 1) (λ i. capital (v′ i)) (a + 1) k v (a + 1) (λ i. capital (v i)) (a + 1) g (λ i l. ap capital (g i l)),
+    )
     refl
 
 pub alike-same : (v v′ : Bytes) (a b : ℕ) → Named v v′ a → Named v v′ b → alike v′ a b ≡ alike v a b
@@ -285,11 +286,12 @@ unfolding alike
 alike-same v v′ a b f g =
     let z : v′ a ≡ v a = rw add-zero at (f 0 (omega arith)) in
     let y : v′ b ≡ v b = rw add-zero at (g 0 (omega arith)) in
-    rw
-    (z,
+    rw (
+      z,
       y,
       equal-cong v′ (a + 1) v′ (b + 1) (v a % 16) v (a + 1) v (b + 1)
-      (λ i l. rw (add-assoc a 1 i) (f (1 + i) (omega arith))) (λ i l. rw (add-assoc b 1 i) (g (1 + i) (omega arith))))
+          (λ i l. rw (add-assoc a 1 i) (f (1 + i) (omega arith))) (λ i l. rw (add-assoc b 1 i) (g (1 + i) (omega arith))),
+    )
     refl
 
 twinsOf-same : (v v′ : Bytes) (s : ℕ) (ss : List ℕ) → Named v v′ (at s)

@@ -7,7 +7,7 @@ use lib.Dec.{eqb}
 use native.Mathlib.Omega.{arith}
 use native.Mathlib.Nat.{add-zero, add-assoc}
 use borrow.Author.Tests.{eqb-true, eqb-false, eq-eqb, leb-true, le-leb}
-use Rattle.model.specs.Bytes.{Bytes, sum, count, is, one-if, from, zeros, within, equalBytes, _and_, _or_}
+use Rattle.model.specs.Bytes.{Bytes, sum, count, is, one-if, from, zeros, within, _and_, _or_}
 use Rattle.model.specs.Names.{Part, nameMost, capital, capitals, letter, nameByte, nameBytes, properName, nameSize, capitalName, sameName, alike}
 use Rattle.model.specs.Directory.{sort, isActive, at}
 use Rattle.model.specs.Sound.{twinsOf, twins}
