@@ -24,7 +24,7 @@ use Rattle.laws.proofs.Facts.{Seen}
 use Rattle.laws.proofs.Most.{directory-most}
 use Rattle.laws.proofs.One.{Place, place, Kept, file-directory, inactive-file, way-bottom, bottom}
 use Rattle.laws.proofs.Spelling.{same-bears, bears-same, bears-named}
-use Rattle.laws.proofs.Lookup.{first-zero, not-false, seek-none, name-size, path-short, path-last, Home, open-led, target-led}
+use Rattle.laws.proofs.Lookup.{rows-off, not-false, seek-none, name-size, path-short, path-last, Home, open-led, target-led}
 use Rattle.laws.proofs.Create.{Fresh, a-file, a-directory, Creates, made-sound, made-others}
 use Rattle.laws.proofs.Extend.{Extends, grown-sound, grown-others, grown-octets, grown-place, grown-entry, grown-free, grown-way, grown-kids, grown-off}
 use Rattle.laws.proofs.Settled.{settled, kept-self, kept-trans}
@@ -214,22 +214,13 @@ module _ (len : ℕ) (v p : Bytes) (k : ℕ) (w : Wanted) (octets : Octets v) (S
   unfolding createNumber Right
   done e =
       let facts = sound-facts (total len) v S in
-      let r₁ = first-zero _ _ e (λ z. omega arith) in
-      let r₂ = first-zero _ _ (r₁ .1) (λ z. omega arith) in
-      let r₃ = first-zero _ _ (r₂ .1) (λ z. omega arith) in
-      let r₄ = first-zero _ _ (r₃ .1) (λ z. omega arith) in
-      let r₅ = first-zero _ _ (r₄ .1) (λ z. omega arith) in
-      let r₆ = first-zero _ _ (r₅ .1) (λ z. omega arith) in
-      let r₇ = first-zero _ _ (r₆ .1) (λ z. omega arith) in
-      let r₈ = first-zero _ _ (r₇ .1) (λ z. omega arith) in
-      let r₉ = first-zero _ _ (r₈ .1) (λ z. omega arith) in
-      let r₁₀ = first-zero _ _ (r₉ .1) (λ z. omega arith) in
-      let path : properPath p k ≡ true = not-false _ (r₃ .0) in
-      let O = open-led (target-led facts p k) (r₆ .0) (r₇ .0) (r₈ .0) in
-      let R = create-right p (lastPart (parts p k)) octets facts (O .home) (O .lacks) (path-last p k path (omega (arith, O .depth)))
-      (omega (arith, O .depth, path-short p k path)) (wants w (not-false _ (r₄ .0)) (r₅ .0))
-      (λ f z. false≢true (sym (r₉ .0) ∙ and-both _ _ (eq-eqb where-to volume z) f))
-      (rw (facts .place) at (ltb-false (room (mapBlock v) v (total len)) (createNeed v where-to) (r₁₀ .0))) in
+      let r = rows-off _ e refl in
+      let path : properPath p k ≡ true = not-false _ (r 2) in
+      let O = open-led (target-led facts p k) (r 5) (r 6) (r 7) in
+      let R = create-right {k = O .steps} p (lastPart (parts p k)) octets facts (O .home) (O .lacks) (path-last p k path (omega (arith, O .depth)))
+      (omega (arith, O .depth, path-short p k path)) (wants w (not-false _ (r 3)) (r 4))
+      (λ f z. false≢true (sym (r 8) ∙ and-both _ _ (eq-eqb where-to volume z) f))
+      (rw (facts .place) at (ltb-false (room (mapBlock v) v (total len)) (createNeed v where-to) (r 9))) in
       rw (facts .place) (facts-sound (R .0), R .1)
 
   kept : Right (create len v p k w .image)

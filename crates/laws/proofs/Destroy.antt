@@ -22,7 +22,7 @@ use Rattle.laws.proofs.Keep.{sort-at}
 use Rattle.laws.proofs.Facts.{own-mine, mine-in, mine-once, mine-off, kid-once, seen-directory}
 use Rattle.laws.proofs.One.{Place, in-slot, in-count, Apart, Step, Others, Change, leaf, inactive-directory, off-blocks, slot-map, slot-head, head-mine, one-entry, one-sound, one-others}
 use Rattle.laws.proofs.Spelling.{twins-change}
-use Rattle.laws.proofs.Lookup.{first-zero, not-false, entry-led, target-led}
+use Rattle.laws.proofs.Lookup.{rows-off, not-false, entry-led, target-led}
 use Rattle.laws.proofs.Settled.{settled, others-self}
 
 -- Blocks given back.
@@ -197,15 +197,9 @@ module _ (len : ℕ) (v p : Bytes) (k : ℕ) (octets : Octets v) (S : sound (tot
   unfolding destroyNumber mayDestroy
   done e =
       let facts = sound-facts (total len) v S in
-      let r₁ = first-zero _ _ e (λ z. omega arith) in
-      let r₂ = first-zero _ _ (r₁ .1) (λ z. omega arith) in
-      let r₃ = first-zero _ _ (r₂ .1) (λ z. omega arith) in
-      let r₄ = first-zero _ _ (r₃ .1) (λ z. omega arith) in
-      let r₅ = first-zero _ _ (r₄ .1) (λ z. omega arith) in
-      let r₆ = first-zero _ _ (r₅ .1) (λ z. omega arith) in
-      let r₇ = first-zero _ _ (r₆ .1) (λ z. omega arith) in
-      let may : mayDestroy v (spot (target v p k)) ≡ true = not-false _ (r₇ .0) in
-      let E = entry-led facts (target-led facts p k) (r₄ .0) (r₅ .0) (r₆ .0) (not-volume (and-left _ _ may)) in
+      let r = rows-off _ e refl in
+      let may : mayDestroy v (spot (target v p k)) ≡ true = not-false _ (r 6) in
+      let E = entry-led facts (target-led facts p k) (r 3) (r 4) (r 5) (not-volume (and-left _ _ may)) in
       record { octets = octets; sound = facts; spot = E .spot; alive = live-active (sort v (spot (target v p k))) (E .alive); empty = none-below facts (E .spot) may }
     where
       not-volume : not (eqb (spot (target v p k)) volume) ≡ true → spot (target v p k) ≡ volume → ⊥

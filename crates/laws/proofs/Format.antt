@@ -28,7 +28,7 @@ use Rattle.laws.proofs.Sound.{and-right, and-both, deep, sums, fixed, m
 use Rattle.laws.proofs.Keep.{sort-at}
 use Rattle.laws.proofs.One.{leaf, inactive-directory, off-blocks}
 use Rattle.laws.proofs.Spelling.{within-is, Bears, bears-capital, stored, twins-off}
-use Rattle.laws.proofs.Lookup.{first-zero, not-false, name-size}
+use Rattle.laws.proofs.Lookup.{rows-off, not-false, name-size}
 use Rattle.laws.proofs.Fresh.{name-rest}
 use Rattle.laws.proofs.Settled.{done-image}
 
@@ -313,7 +313,6 @@ module _ (n : ℕ) (q : Bytes) (j : ℕ) (t : Stamp) (large : 16 ≤ n) (small :
 pub format-sound : (len : ℕ) (v q : Bytes) (j : ℕ) (t : Stamp) → formatNumber len q j ≡ 0 → sound (total len) (format len v q j t .image) ≡ true
 unfolding format formatNumber wholeBlocks
 format-sound len v q j t e =
-    let r₁ = first-zero _ _ e (λ z. omega arith) in
-    let r₂ = first-zero _ _ (r₁ .1) (λ z. omega arith) in
-    let size = within-is 16 65535 (total len) (and-right _ _ (not-false _ (r₁ .0))) in
-    rw (done-image (formatNumber len q j) nothing v nothing (formatted (total len) q j t) e) (facts-sound (new-sound (total len) q j t (size .0) (size .1) (not-false _ (r₂ .0))))
+    let r = rows-off _ e refl in
+    let size = within-is 16 65535 (total len) (and-right _ _ (not-false _ (r 0))) in
+    rw (done-image (formatNumber len q j) nothing v nothing (formatted (total len) q j t) e) (facts-sound (new-sound (total len) q j t (size .0) (size .1) (not-false _ (r 1))))

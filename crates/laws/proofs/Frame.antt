@@ -9,7 +9,7 @@ use native.Mathlib.Omega.{arith}
 use native.Mathlib.Nat.{add-zero, add-assoc}
 use borrow.Author.Tests.{eqb-false, ltb-true, ltb-false}
 use Rattle.model.specs.Bytes.{Bytes, sum, count, gather, run, is, one-if, word}
-use Rattle.model.specs.Names.{nameByte, nameBytes, properName, capital, nameSize, capitalName, alike}
+use Rattle.model.specs.Names.{nameByte, nameBytes, properName, capital, capitalName, alike}
 use Rattle.model.specs.Directory.{at, previous, next, chain, slots, sort, isActive}
 use Rattle.model.specs.File.{Node, node, pointer, limb, nodes, blocksIn, above, dataBlock, fileByte}
 use Rattle.model.specs.Sound.{links, twinsOf, twins}
@@ -267,42 +267,32 @@ nameBytes-same v v′ a (suc k) f =
     let r = nameBytes-same v v′ (a + 1) k (λ i l. rw (add-assoc a 1 i) (f (1 + i) (omega arith))) in
     λ i. elim (nameByte (h i)) [ true ↦ r i | false ↦ false ]
 
--- the same name, whatever the kind beside its size
-abbrev pub Spelled : Bytes → Bytes → ℕ → Type 0
-Spelled v v′ a = (nameSize v′ a ≡ nameSize v a) × ((i : ℕ) → 1 ≤ i → i < 16 → v′ (a + i) ≡ v (a + i))
-
-pub named-spelled : (v v′ : Bytes) (a : ℕ) → Named v v′ a → Spelled v v′ a
-named-spelled v v′ a f = (rw (rw add-zero at (f 0 (omega arith))) refl, λ i g l. f i l)
-
-pub capitalName-spelled : (v v′ : Bytes) (a : ℕ) → Spelled v v′ a → capitalName v′ a ≡ capitalName v a
+pub capitalName-same : (v v′ : Bytes) (a : ℕ) → Named v v′ a → capitalName v′ a ≡ capitalName v a
 unfolding capitalName properName
-capitalName-spelled v v′ a f =
+capitalName-same v v′ a f =
+    let z : v′ a ≡ v a = rw add-zero at (f 0 (omega arith)) in
     let k = v a % 16 in
-    let g : (i : ℕ) → i < k → v′ (a + 1 + i) ≡ v (a + 1 + i) = λ i l. rw (add-assoc a 1 i) (f .1 (1 + i) (omega arith) (omega arith)) in
+    let g : (i : ℕ) → i < k → v′ (a + 1 + i) ≡ v (a + 1 + i) = λ i l. rw (add-assoc a 1 i) (f (1 + i) (omega arith)) in
     rw (
-      f .0,
-      f .1 1 (omega arith) (omega arith),
+      z,
+      f 1 (omega arith),
       nameBytes-same v v′ (a + 1) k g,
       equal-cong v′ (a + 1) (λ i. capital (v′ i)) (a + 1) k v (a + 1) (λ i. capital (v i)) (a + 1) g (λ i l. ap capital (g i l)),
     )
     refl
 
-pub alike-spelled : (v v′ : Bytes) (a b : ℕ) → Spelled v v′ a → Spelled v v′ b → alike v′ a b ≡ alike v a b
+pub alike-same : (v v′ : Bytes) (a b : ℕ) → Named v v′ a → Named v v′ b → alike v′ a b ≡ alike v a b
 unfolding alike
-alike-spelled v v′ a b f g =
+alike-same v v′ a b f g =
+    let z : v′ a ≡ v a = rw add-zero at (f 0 (omega arith)) in
+    let y : v′ b ≡ v b = rw add-zero at (g 0 (omega arith)) in
     rw (
-      f .0,
-      g .0,
+      z,
+      y,
       equal-cong v′ (a + 1) v′ (b + 1) (v a % 16) v (a + 1) v (b + 1)
-          (λ i l. rw (add-assoc a 1 i) (f .1 (1 + i) (omega arith) (omega arith))) (λ i l. rw (add-assoc b 1 i) (g .1 (1 + i) (omega arith) (omega arith))),
+          (λ i l. rw (add-assoc a 1 i) (f (1 + i) (omega arith))) (λ i l. rw (add-assoc b 1 i) (g (1 + i) (omega arith))),
     )
     refl
-
-pub capitalName-same : (v v′ : Bytes) (a : ℕ) → Named v v′ a → capitalName v′ a ≡ capitalName v a
-capitalName-same v v′ a f = capitalName-spelled v v′ a (named-spelled v v′ a f)
-
-pub alike-same : (v v′ : Bytes) (a b : ℕ) → Named v v′ a → Named v v′ b → alike v′ a b ≡ alike v a b
-alike-same v v′ a b f g = alike-spelled v v′ a b (named-spelled v v′ a f) (named-spelled v v′ b g)
 
 twinsOf-same : (v v′ : Bytes) (s : ℕ) (ss : List ℕ) → Named v v′ (at s)
     → ((t : ℕ) → 1 ≤ count t ss → (sort v′ t ≡ sort v t) × Named v v′ (at t)) → twinsOf v′ s ss ≡ twinsOf v s ss

@@ -1,6 +1,6 @@
 -- Set info keeps soundness, and every other file as it was.
 use Prim.Native.Nat.{ℕ, _+_, _-_, _*_, _≤_, _<_}
-use mathlib.Core.Path.{_≡_, _∙_}
+use mathlib.Core.Path.{_≡_, refl, _∙_}
 use mathlib.Core.Bool.{true}
 use native.Mathlib.Omega.{arith}
 use borrow.Author.Tests.{eqb-false}
@@ -17,7 +17,7 @@ use Rattle.laws.proofs.Keep.{Head, misnamed-same, badge-same, sort-name
 use Rattle.laws.proofs.Facts.{seen-directory}
 use Rattle.laws.proofs.One.{Place, Others, slot-head}
 use Rattle.laws.proofs.Relabel.{Relabels, relabel-sound, relabel-others}
-use Rattle.laws.proofs.Lookup.{first-zero, entry-led, target-led}
+use Rattle.laws.proofs.Lookup.{rows-off, entry-led, target-led}
 use Rattle.laws.proofs.Settled.{settled, others-self}
 
 info-out : (v : Bytes) (s access aux : ℕ) (t : Stamp) (i : ℕ) → (at s + 30 ≤ i → i < at s + 37 → ⊥) → infoSet v s access aux t i ≡ v i
@@ -56,15 +56,8 @@ module _ (len : ℕ) (v p : Bytes) (k access aux : ℕ) (t : Stamp) (S : sound (
   unfolding setInfoNumber
   done e =
       let facts = sound-facts (total len) v S in
-      let r₁ = first-zero _ _ e (λ z. omega arith) in
-      let r₂ = first-zero _ _ (r₁ .1) (λ z. omega arith) in
-      let r₃ = first-zero _ _ (r₂ .1) (λ z. omega arith) in
-      let r₄ = first-zero _ _ (r₃ .1) (λ z. omega arith) in
-      let r₅ = first-zero _ _ (r₄ .1) (λ z. omega arith) in
-      let r₆ = first-zero _ _ (r₅ .1) (λ z. omega arith) in
-      let r₇ = first-zero _ _ (r₆ .1) (λ z. omega arith) in
-      let r₈ = first-zero _ _ (r₇ .1) (λ z. omega arith) in
-      let E = entry-led facts (target-led facts p k) (r₅ .0) (r₆ .0) (r₇ .0) (eqb-false (spot (target v p k)) volume (r₈ .0)) in
+      let r = rows-off _ e refl in
+      let E = entry-led facts (target-led facts p k) (r 4) (r 5) (r 6) (eqb-false (spot (target v p k)) volume (r 7)) in
       set-relabels access aux t facts (E .spot)
 
   pub set-info-sound : sound (total len) (setInfo len v p k access aux t .image) ≡ true

@@ -18,7 +18,6 @@ pub mod Fresh
 pub mod Create
 pub mod Extend
 pub mod Created
-pub mod Refile
 pub mod Octet
 pub mod Format
 pub mod Weigh
@@ -40,3 +39,4 @@ pub mod Prune
 pub mod Reset
 pub mod Reading
 pub mod Elsewhere
+pub mod Sequence

@@ -7,11 +7,11 @@ use mathlib.Core.Bool.{Bool, true, false, not, false≢true}
 use lib.Dec.{ltb, eqb}
 use lib.ListN.{length}
 use native.Mathlib.Omega.{arith}
-use borrow.Author.Tests.{eqb-true, ltb-true}
+use borrow.Author.Tests.{eqb-true, eqb-false, ltb-true}
 use Rattle.model.specs.Bytes.{Bytes, sum, count, is, _and_}
 use Rattle.model.specs.Names.{Part, part, slash, nameMost, pathMost, nameEnd, partsFrom, parts, properName, properParts, properPath, sameName}
 use Rattle.model.specs.Directory.{Sort, inactive, directory, improper, file, sort, isActive, isDirectory, at, volume, kids, seek, Target, noVolume, noDirectory, missing, there, last, along, lookup}
-use Rattle.model.specs.Refusals.{Row, first}
+use Rattle.model.specs.Refusals.{Row, row, first}
 use Rattle.model.specs.Calls.{isNoVolume, isNoDirectory, isMissing, isThere, home, spot, target, lastPart}
 use Rattle.model.proofs.RefusalLaws.{first-applies, first-passes}
 use Rattle.model.proofs.SumLaws.{is-self}
@@ -28,6 +28,26 @@ first-zero r rs e n = go (r .applies) refl
     go : (b : Bool) → r .applies ≡ b → (b ≡ false) × (first rs ≡ 0)
     go true f = absurd (n (sym (first-applies r rs f) ∙ e))
     go false f = (refl, sym (first-passes r rs f) ∙ e)
+
+-- all rows at once, by their place in the table
+abbrev pub nth : List Row → ℕ → Row
+nth [] i = row false 0
+nth (r ∷ rs) zero = r
+nth (r ∷ rs) (suc i) = nth rs i
+
+abbrev pub numbered : List Row → Bool
+numbered [] = true
+numbered (r ∷ rs) = elim (eqb (r .number) 0) [ true ↦ false | false ↦ numbered rs ]
+
+pub rows-off : (rs : List Row) → first rs ≡ 0 → numbered rs ≡ true → (i : ℕ) → nth rs i .applies ≡ false
+rows-off [] e n i = refl
+rows-off (r ∷ rs) e n i = go (eqb (r .number) 0) refl n i (rows-off rs)
+  where
+    go : (b : Bool) → eqb (r .number) 0 ≡ b → _≡_ {A = Bool} (elim b [ true ↦ false | false ↦ numbered rs ]) true → (i : ℕ)
+        → (first rs ≡ 0 → numbered rs ≡ true → (i : ℕ) → nth rs i .applies ≡ false) → nth (r ∷ rs) i .applies ≡ false
+    go true f g i h = absurd (false≢true g)
+    go false f g zero h = first-zero r rs e (eqb-false (r .number) 0 f) .0
+    go false f g (suc i) h = h (first-zero r rs e (eqb-false (r .number) 0 f) .1) g i
 
 pub not-false : (b : Bool) → not b ≡ false → b ≡ true
 not-false true e = refl

@@ -1,26 +1,27 @@
 -- What the calls leave is bytes again, each below 256: so calls may follow one another. (Destroy has it in Destroy.antt.)
 use Prim.Native.Nat.{ℕ, _+_, _*_, _<_, _/_}
-use mathlib.Core.Path.{_≡_}
+use mathlib.Core.Path.{_≡_, refl}
+use mathlib.Core.List.{List, [], _∷_}
 use mathlib.Core.Option.{Option, none, some}
 use mathlib.Core.Bool.{Bool, true, false}
 use lib.Dec.{eqb}
 use native.Mathlib.Omega.{arith}
 use Rattle.model.specs.Bytes.{Bytes, Octets, put, paste, zeros}
 use Rattle.model.specs.Names.{Part, part, parts}
-use Rattle.model.specs.Map.{taken}
-use Rattle.model.specs.Directory.{Sort, inactive, directory, improper, file, sort, at, volume, key, access, mapBlock, kids, vacant}
+use Rattle.model.specs.Map.{mapBlocks, taken}
+use Rattle.model.specs.Directory.{volumeChain, mapPlace, Sort, inactive, directory, improper, file, sort, at, volume, key, access, mapBlock, kids, vacant}
 use Rattle.model.specs.Calls.{total, target, home, lastPart, stampBytes, nameField, backedUp}
-use Rattle.model.specs.Format.{headerBytes}
+use Rattle.model.specs.Format.{linked, headerBytes, volumeHeader, formatted, formatNumber, format}
 use Rattle.model.specs.Info.{infoSet, setInfo}
 use Rattle.model.specs.Rename.{named, headerNamed, renamed, renameNumber, rename}
 use Rattle.model.specs.Create.{Wanted, directoryKind, gained, entryBytes, subdirectoryHeader, entered, createdAt, created, createNumber, create}
 use Rattle.model.specs.Sound.{sound}
 use Rattle.model.specs.declared.Stamp.{Stamp}
 use Rattle.model.proofs.ByteLaws.{octets-put, octets-paste, octets-putWord, octets-putLong, digit-bound}
-use Rattle.model.proofs.BitLaws.{taken-octets}
+use Rattle.model.proofs.BitLaws.{taken-octets, fresh-byte}
 use Rattle.laws.proofs.Sound.{and-right, sound-facts}
 use Rattle.laws.proofs.Spelling.{capital-most}
-use Rattle.laws.proofs.Lookup.{first-zero, not-false, name-size, path-last, open-led, target-led}
+use Rattle.laws.proofs.Lookup.{rows-off, not-false, name-size, path-last, open-led, target-led}
 use Rattle.laws.proofs.Created.{Wants, want-file, want-directory, wants}
 use Rattle.laws.proofs.Settled.{settled}
 
@@ -35,6 +36,31 @@ name-octets : (k : ℕ) (p : Bytes) (x : Part) → Octets p → k < 16 → x .si
 unfolding nameField
 name-octets k p x o h l =
     octets-put _ 0 _ (octets-paste zeros 1 (x .size) _ (λ i. omega arith) (λ i g. omega (arith, o (x .start + i), capital-most (p (x .start + i))))) (omega arith)
+
+-- format
+linked-octets : (f : Bytes) (p : ℕ) (bs : List ℕ) → Octets f → Octets (linked f p bs)
+unfolding linked
+linked-octets f p [] o = o
+linked-octets f p (b ∷ []) o = octets-putWord f (b * 512) p o
+linked-octets f p (b ∷ c ∷ r) o = linked-octets _ b (c ∷ r) (octets-putWord _ _ _ (octets-putWord f (b * 512) p o))
+
+head-octets : (k : ℕ) (p : Bytes) (x : Part) (t : Stamp) (access : ℕ) → Octets p → k < 16 → x .size < 16 → access < 256 → Octets (headerBytes k p x t access)
+unfolding headerBytes
+head-octets k p x t access o h l g =
+    octets-put _ _ _ (octets-put _ _ _ (octets-put _ _ _ (octets-stamp _ _ t (name-octets k p x o h l)) g) (omega arith)) (omega arith)
+
+formatted-octets : (n : ℕ) (q : Bytes) (j : ℕ) (t : Stamp) → Octets q → j < 16 → Octets (formatted n q j t)
+unfolding formatted volumeHeader
+formatted-octets n q j t o h =
+    octets-paste _ _ _ _
+    (octets-paste _ _ 39 _ (linked-octets zeros 0 volumeChain (λ i. omega arith))
+    (λ i l. octets-putWord _ 0x25 n (octets-putWord _ 0x23 mapPlace (head-octets 0xF q (part 0 j) t 0xC3 o (omega arith) h (omega arith))) i))
+    (λ i l. fresh-byte (mapPlace + mapBlocks n) n i)
+
+pub format-octets : (len : ℕ) (v q : Bytes) (j : ℕ) (t : Stamp) → Octets v → Octets q → Octets (format len v q j t .image)
+unfolding format formatNumber
+format-octets len v q j t o h =
+    settled _ _ v _ _ Octets o (λ e. let r = rows-off _ e refl in formatted-octets (total len) q j t h (name-size q 0 j (not-false _ (r 1))))
 
 -- set info
 info-octets : (v : Bytes) (s access aux : ℕ) (t : Stamp) → Octets v → access < 256 → Octets (infoSet v s access aux t)
@@ -78,10 +104,8 @@ unfolding rename renameNumber
 rename-octets len v p k q j o h =
     settled _ _ v _ _ Octets o
     (λ e.
-    let r₁ = first-zero _ _ e (λ z. omega arith) in
-    let r₂ = first-zero _ _ (r₁ .1) (λ z. omega arith) in
-    let r₃ = first-zero _ _ (r₂ .1) (λ z. omega arith) in
-    renamed-octets v _ q j o h (name-size q 0 j (and-right _ _ (not-false _ (r₃ .0)))))
+    let r = rows-off _ e refl in
+    renamed-octets v _ q j o h (name-size q 0 j (and-right _ _ (not-false _ (r 2)))))
 
 -- create
 module _ (p : Bytes) (x : Part) (w : Wanted) (path : Octets p) (kind : w .kind < 16) (typed : w .ftype < 256) (short : x .size < 16) where
@@ -97,14 +121,11 @@ module _ (p : Bytes) (x : Part) (w : Wanted) (path : Octets p) (kind : w .kind <
       (omega arith))))
 
   header-octets : (s : ℕ) → Octets (subdirectoryHeader p x (w .stamp) s)
-  unfolding subdirectoryHeader headerBytes
+  unfolding subdirectoryHeader
   header-octets s =
       octets-put _ _ _
       (octets-put _ _ _
-      (octets-putWord _ _ _
-      (octets-put _ _ _
-      (octets-put _ _ _ (octets-put _ _ _ (octets-put _ _ _ (octets-stamp _ _ (w .stamp) (name-octets 0xE p x path (omega arith) short)) (omega arith)) (omega arith)) (omega arith))
-      (omega arith)))
+      (octets-putWord _ _ _ (octets-put _ _ _ (head-octets 0xE p x (w .stamp) 0xE3 path (omega arith) short (omega arith)) (omega arith)))
       (omega arith))
       (omega arith)
 
@@ -136,17 +157,10 @@ create-octets len v p k w o path typed S =
     settled _ _ v _ _ Octets o
     (λ e.
     let facts = sound-facts (total len) v S in
-    let r₁ = first-zero _ _ e (λ z. omega arith) in
-    let r₂ = first-zero _ _ (r₁ .1) (λ z. omega arith) in
-    let r₃ = first-zero _ _ (r₂ .1) (λ z. omega arith) in
-    let r₄ = first-zero _ _ (r₃ .1) (λ z. omega arith) in
-    let r₅ = first-zero _ _ (r₄ .1) (λ z. omega arith) in
-    let r₆ = first-zero _ _ (r₅ .1) (λ z. omega arith) in
-    let r₇ = first-zero _ _ (r₆ .1) (λ z. omega arith) in
-    let r₈ = first-zero _ _ (r₇ .1) (λ z. omega arith) in
-    let O = open-led (target-led facts p k) (r₆ .0) (r₇ .0) (r₈ .0) in
-    created-octets p (lastPart (parts p k)) w path (low (wants w (not-false _ (r₄ .0)) (r₅ .0))) typed
-    (name-size p _ _ (path-last p k (not-false _ (r₃ .0)) (omega (arith, O .depth))))
+    let r = rows-off _ e refl in
+    let O = open-led (target-led facts p k) (r 5) (r 6) (r 7) in
+    created-octets p (lastPart (parts p k)) w path (low (wants w (not-false _ (r 3)) (r 4))) typed
+    (name-size p _ _ (path-last p k (not-false _ (r 2)) (omega (arith, O .depth))))
     (mapBlock v) (total len) v (home (target v p k)) o)
   where
     low : Wants w → w .kind < 16

@@ -25,7 +25,7 @@ use Rattle.laws.proofs.Facts.{Seen, Placed, seen-placed, kid-placed, pl
 use Rattle.laws.proofs.One.{Place, Others, slot-head, file-directory, one-entry}
 use Rattle.laws.proofs.Spelling.{Bears, same-bears, bears-same, bears-capital, bears-alike, alike-bears, alike-back, bears-named, stored, twins-two, twins-change}
 use Rattle.laws.proofs.Relabel.{Marks, marks-step, Relabels, relabel-sound, relabel-others}
-use Rattle.laws.proofs.Lookup.{first-zero, not-false, seek-some, seek-none, name-size, entry-led, target-led}
+use Rattle.laws.proofs.Lookup.{rows-off, not-false, seek-some, seek-none, name-size, entry-led, target-led}
 use Rattle.laws.proofs.Settled.{settled, others-self}
 
 -- no other active entry has a name that is not taken
@@ -266,19 +266,13 @@ module _ (len : ℕ) (v p : Bytes) (k : ℕ) (q : Bytes) (j : ℕ) (S : sound (t
   unfolding renameNumber Right
   done e =
       let facts = sound-facts (total len) v S in
-      let r₁ = first-zero _ _ e (λ z. omega arith) in
-      let r₂ = first-zero _ _ (r₁ .1) (λ z. omega arith) in
-      let r₃ = first-zero _ _ (r₂ .1) (λ z. omega arith) in
-      let r₄ = first-zero _ _ (r₃ .1) (λ z. omega arith) in
-      let r₅ = first-zero _ _ (r₄ .1) (λ z. omega arith) in
-      let r₆ = first-zero _ _ (r₅ .1) (λ z. omega arith) in
-      let r₇ = first-zero _ _ (r₆ .1) (λ z. omega arith) in
-      let proper : properName q 0 j ≡ true = and-right _ _ (not-false _ (r₃ .0)) in
+      let r = rows-off _ e refl in
+      let proper : properName q 0 j ≡ true = and-right _ _ (not-false _ (r 2)) in
       at-or-off there volume
       (λ z. rw (whole z) (facts-sound (after-sound q j facts proper), rw z (after-others q j facts proper)))
       (λ z.
-      let E = entry-led facts (target-led facts p k) (r₄ .0) (r₅ .0) (r₆ .0) z in
-      let R = now-relabels q j facts (E .spot) (E .alive) proper (open-name z (r₇ .0)) in
+      let E = entry-led facts (target-led facts p k) (r 3) (r 4) (r 5) z in
+      let R = now-relabels q j facts (E .spot) (E .alive) proper (open-name z (r 6)) in
       (facts-sound (relabel-sound R), relabel-others R))
     where
       whole : there ≡ volume → renamed v there q j ≡ named v (at volume) q j

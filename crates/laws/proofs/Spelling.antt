@@ -7,7 +7,7 @@ use lib.Dec.{eqb}
 use native.Mathlib.Omega.{arith}
 use native.Mathlib.Nat.{add-zero, add-assoc}
 use borrow.Author.Tests.{eqb-true, eqb-false, eq-eqb, leb-true, le-leb}
-use Rattle.model.specs.Bytes.{Bytes, sum, count, is, one-if, from, zeros, within, equalBytes, _and_, _or_}
+use Rattle.model.specs.Bytes.{Bytes, sum, count, is, one-if, from, zeros, within, _and_, _or_}
 use Rattle.model.specs.Names.{Part, nameMost, capital, capitals, letter, nameByte, nameBytes, properName, nameSize, capitalName, sameName, alike}
 use Rattle.model.specs.Directory.{sort, isActive, at}
 use Rattle.model.specs.Sound.{twinsOf, twins}
@@ -116,7 +116,7 @@ module _ (v : Bytes) (a : ℕ) (p : Bytes) (x : Part) where
   unfolding capitalName properName
   bears-capital B e =
       let size = within-is 1 nameMost (x .size) (and-left _ _ e) in
-      let first : v (a + 1) ≡ capital (p (x .start)) = rw (add-zero, add-zero) at (B .spelled 0 (omega (arith, size .0))) in
+      let first : v (a + 1) ≡ capital (p (x .start)) = rw (add-zero (a + 1), add-zero (x .start)) at (B .spelled 0 (omega (arith, size .0))) in
       rw (B .sized)
       (and-both _ _
       (and-both _ _ (and-left _ _ e)
@@ -171,13 +171,6 @@ bears-named v v′ b q x s f B =
       sized = rw (← rw add-zero at (f 0 (omega arith))) (B .sized);
       spelled = λ i l. sym (rw (add-assoc b 1 i) (f (1 + i) (omega arith))) ∙ B .spelled i l;
     }
-
-pub alike-sym : (v : Bytes) (a b : ℕ) → alike v a b ≡ true → alike v b a ≡ true
-unfolding alike
-alike-sym v a b e =
-    let s : nameSize v a ≡ nameSize v b = eqb-true _ _ (and-left _ _ e) in
-    and-both (eqb (nameSize v b) (nameSize v a)) (equalBytes v (b + 1) v (a + 1) (nameSize v b)) (eq-eqb _ _ (sym s))
-    (rw (← s) (equal-all v (b + 1) v (a + 1) (nameSize v a) (λ i l. sym (equal-at v (a + 1) v (b + 1) (nameSize v a) (and-right _ _ e) i l))))
 
 -- Twins.
 not-both : (p q : Bool) → (p ≡ true → q ≡ true → ⊥) → one-if (p and q) ≡ 0
