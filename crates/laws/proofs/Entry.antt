@@ -14,7 +14,7 @@ use Rattle.model.specs.Map.{mapBlocks}
 use Rattle.model.specs.Kinds.{kindFor, kindNumber}
 use Rattle.model.specs.declared.Kind.the-variants.{Seedling, Sapling, Tree}
 use Rattle.model.specs.Directory.{directory, file, sort, isActive, isDirectory, access, at, directoryType, mapPlace, volume, volumeBlock, ftype, key, used, eof, directoryKey, kids}
-use Rattle.model.specs.File.{nodes, blocks, span, heightFor, above, dataBlock, fileByte, content}
+use Rattle.model.specs.File.{nodes, blocks, span, heightFor, fileByte, content}
 use Rattle.model.specs.Sound.{outside, late, fileFaults, faultsOf, faults}
 use Rattle.model.specs.Calls.{allows, readBit}
 use Rattle.model.specs.Write.{noted}
@@ -23,7 +23,7 @@ use Rattle.model.proofs.BitLaws.{is-yes, is-no, MapSame, same-free, same-rest}
 use Rattle.model.proofs.ByteLaws.{at-or-off, word-same, long-bound}
 use Rattle.model.proofs.SumLaws.{count-none, run-has}
 use Rattle.laws.proofs.Total.{total-one}
-use Rattle.laws.proofs.Frame.{at-block, at-place, Alike}
+use Rattle.laws.proofs.Frame.{at-block, at-place, Alike, fileByte-same}
 use Rattle.laws.proofs.Sound.{deep, top, fixed, mine, Sound}
 use Rattle.laws.proofs.Keep.{head-name, field-at, eof-at, ftype-at, file-blocks, kids-same}
 use Rattle.laws.proofs.Facts.{FileRight, EntryRight, seen-file, kid-right, mine-in, mine-once, mine-map, mine-apart, placed-apart, directory-key, seen-directory}
@@ -31,7 +31,7 @@ use Rattle.laws.proofs.One.{leaf, file-directory, Place, slot-placed, s
 use Rattle.laws.proofs.Weigh.{Gauge, weigh, each, tardy, has, size, weigh-zero, weigh-same, nodes-count, nodes-length, blocks-length, nodes-late, nodes-outside}
 use Rattle.laws.proofs.Move.{by-zero, map-low, map-alike, Fit, Move, move-fit, fit-key}
 use Rattle.laws.proofs.Room.{size-most}
-use Rattle.laws.proofs.Data.{spot, data-has, same-data, file-same}
+use Rattle.laws.proofs.Data.{spot}
 use Rattle.laws.proofs.Near.{Near, named-near, capital-near, twins-near}
 use Rattle.laws.proofs.Paths.{SameNames}
 use Rattle.laws.proofs.Noted.{noted-out, noted-near, noted-sort, noted-key, noted-used, noted-eof, noted-up, noted-type, noted-access, noted-octets, backed-read}
@@ -264,11 +264,9 @@ module _ {n : ℕ} {v : Bytes} {a d h : ℕ} (R : Ready n v a d h) {w : Bytes} {
       }
 
   -- the bytes that are read
-  pub called-byte : (i : ℕ) → 0 ≡ above g (i / 512) → content called a i ≡ fileByte w g k i
-  called-byte i s =
-      rw (called-sort, called-key)
-      (file-same w g k called g k i (same-data w g 0 k called g 0 k (i / 512) (λ b. read (spot (i / 512) b)) s s)
-      (λ z. in-tree (dataBlock w g k (i / 512)) (data-has w g 0 k (i / 512) s z)))
+  pub called-byte : (i : ℕ) → content called a i ≡ fileByte w g k i
+  called-byte i =
+      rw (called-sort, called-key) (ap (λ f. f i) (fileByte-same w called g k (λ b m. in-tree b (rw (nodes-count w g 0 k b) at m))))
 
   -- every path leads where it led, and the file may be read if it could be
   called-names : SameNames v called

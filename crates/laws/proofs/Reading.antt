@@ -57,7 +57,7 @@ pass : (b : Bool) (k : ℕ) (rs : List Row) → b ≡ false → first rs ≡ 0 �
 pass b k rs e f = first-passes (row b k) rs e ∙ f
 
 -- After a call on a file that may be read, each read at a place before the end is done.
-module _ {len : ℕ} {v p : Bytes} {k : ℕ} {rs : List Row} (O : Opened len v p k rs) {w : Bytes} {e : ℕ}
+module _ {len : ℕ} {v p : Bytes} {k : ℕ} (O : Opened len v p k) {w : Bytes} {e : ℕ}
     (D : Done (total len) v (spot (target v p k)) w e) where
   stays : target w p k ≡ target v p k
   stays = target-same (O .ready .sound) (D .names) p k
@@ -115,7 +115,7 @@ module _ (len : ℕ) (v p : Bytes) (k pos : ℕ) (buffer : Bytes) (size : ℕ) (
       × (read len wrote-to p k pos b size .parts .moved ≡ size)
       × ((i : ℕ) → i < size → read len wrote-to p k pos b size .parts .buffer i ≡ buffer i)
   write-read some may b =
-      let O = write-opened len v p k pos buffer size t octets lent z .1 in
+      let O = write-opened len v p k pos buffer size t octets lent z in
       let W = write-done len v p k pos buffer size t octets lent z in
       let r = reads O (W .done) pos b size may (omega arith) (λ e. absurd (omega arith)) in
       let x : (i : ℕ) → pos + i - pos ≡ i = λ i. omega arith in (
@@ -129,7 +129,7 @@ module _ (len : ℕ) (v p : Bytes) (k pos : ℕ) (buffer : Bytes) (size : ℕ) (
       → (i : ℕ) → i < m → q + i < max (eof v written-at) (pos + size) → (pos ≤ q + i → q + i < pos + size → ⊥)
       → read len wrote-to p k q b m .parts .buffer i ≡ content v written-at (q + i)
   write-rest q b m r i l h o =
-      let O = write-opened len v p k pos buffer size t octets lent z .1 in
+      let O = write-opened len v p k pos buffer size t octets lent z in
       let W = write-done len v p k pos buffer size t octets lent z in
       let start = write-start len v p k pos buffer size t octets lent z in
       reads-bytes O (W .done) q b m r i l h ∙ W .outside (q + i) (by-lt (q + i) pos (λ c. omega arith) (λ c. omega (arith, o c))) o
@@ -148,7 +148,7 @@ module _ (len : ℕ) (v p : Bytes) (k e : ℕ) (t : Stamp) (octets : Octets v) (
       × ((i : ℕ) → i < m → q + i < e → q + i < eof v set-at → read len set-to p k q b m .parts .buffer i ≡ content v set-at (q + i))
       × ((i : ℕ) → i < m → q + i < e → eof v set-at ≤ q + i → read len set-to p k q b m .parts .buffer i ≡ 0)
   set-eof-reads may q b m l h =
-      let O = set-eof-opened len v p k e t octets z .1 in
+      let O = set-eof-opened len v p k e t octets z in
       let W = set-eof-done len v p k e t octets z in
       let r = reads O (W .done) q b m may l h in (
         r,

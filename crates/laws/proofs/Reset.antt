@@ -1,7 +1,6 @@
 -- Set EOF keeps soundness and every other file as it was; the bytes below both ends are as before, those above the old end read as zero.
 use Prim.Native.Nat.{ℕ, _-_, _≤_, _<_, _/_}
 use mathlib.Core.Path.{_≡_, refl, _∙_}
-use mathlib.Core.List.{List}
 use mathlib.Core.Bool.{Bool, true, false}
 use lib.Dec.{ltb}
 use native.Mathlib.Omega.{arith}
@@ -13,21 +12,20 @@ use Rattle.model.specs.File.{eofMost, span, heightFor, height, above, fileByte,
 use Rattle.model.specs.Write.{noted, grown, grownKey}
 use Rattle.model.specs.SetEof.{sunk, sunkKey, pruned, shrunkKey, shrunk, eofSet, setEofNumber, setEof}
 use Rattle.model.specs.Calls.{total, spot, target, nothing}
-use Rattle.model.specs.Refusals.{Row, settle}
+use Rattle.model.specs.Refusals.{settle}
 use Rattle.model.specs.Sound.{sound}
 use Rattle.model.specs.declared.Stamp.{Stamp}
-use Rattle.model.proofs.RefusalLaws.{settle-accepted}
 use Rattle.laws.proofs.Sound.{facts-sound}
 use Rattle.laws.proofs.One.{Others}
 use Rattle.laws.proofs.Weigh.{weigh, tardy}
 use Rattle.laws.proofs.Move.{Move, move-fit, move-then}
-use Rattle.laws.proofs.Room.{first-zero as zero-first}
+use Rattle.laws.proofs.Room.{first-zero}
 use Rattle.laws.proofs.Entry.{Ready, fit, was-tall, Done, called-done, called-byte}
 use Rattle.laws.proofs.Grown.{height-le, height-path, span-some, span-in, grow}
 use Rattle.laws.proofs.Give.{sunk-move}
 use Rattle.laws.proofs.Prune.{Pruned, prune, prune-move, prune-late, prune-byte, sunk-byte}
-use Rattle.laws.proofs.Lookup.{first-zero}
-use Rattle.laws.proofs.Settled.{settled, others-self}
+use Rattle.laws.proofs.Lookup.{rows-off}
+use Rattle.laws.proofs.Settled.{settled, done-image, others-self}
 use Rattle.laws.proofs.Opened.{Opened, opened}
 
 -- What set EOF to e does to the file a.
@@ -48,8 +46,8 @@ module _ {n : ℕ} {v : Bytes} {a d h : ℕ} (R : Ready n v a d h) (e : ℕ) (t 
   reset T ends low high =
       record {
         done = called-done R T e t small refl ends;
-        below = λ i l m. called-byte R T e t small refl ends i (path i m) ∙ low i l m ∙ rw (R .kind) refl;
-        past = λ i l m. called-byte R T e t small refl ends i (path i m) ∙ high i l m;
+        below = λ i l m. called-byte R T e t small refl ends i ∙ low i l m ∙ rw (R .kind) refl;
+        past = λ i l m. called-byte R T e t small refl ends i ∙ high i l m;
       }
 
   longer : eof v a ≤ e → heightFor e - h ≤ room mapPlace v n → Reset n v a (noted (grown mapPlace n v a e) a (heightFor e) (grownKey mapPlace n v a e) e t) e
@@ -65,7 +63,7 @@ module _ {n : ℕ} {v : Bytes} {a d h : ℕ} (R : Ready n v a d h) (e : ℕ) (t 
       let k = sunkKey mapPlace v (heightFor e) (key v a) (h - heightFor e) in
       let A : Move n v h 0 (key v a) f (heightFor e) 0 k = sunk-move n (h - heightFor e) h (heightFor e) (key v a) v (omega arith) (fit R) in
       let B : Pruned n (span e) f (heightFor e) 0 k (pruned mapPlace (span e) f (heightFor e) 0 k) =
-      prune n (span e) (heightFor e) 0 k f (move-fit (fit R) A) (rw (zero-first (heightFor e)) (span-some e)) in
+      prune n (span e) (heightFor e) 0 k f (move-fit (fit R) A) (rw (first-zero (heightFor e)) (span-some e)) in
       rw (R .kind)
       (reset (move-then A (prune-move B)) (prune-late B)
       (λ i m o.
@@ -97,23 +95,20 @@ module _ (len : ℕ) (v p : Bytes) (k e : ℕ) (t : Stamp) (octets : Octets v) w
   new-done : setEofNumber len v p k e (target v p k) ≡ 0 → Reset (total len) v a (eofSet (mapBlock v) (total len) v a e t) e
   unfolding setEofNumber
   new-done z =
-      let O = opened len v p k _ octets z in
-      let R = O .ready in
-      let r₁ = first-zero _ _ (O .rest) (λ z. omega arith) in
-      let r₂ = first-zero _ _ (r₁ .1) (λ z. omega arith) in
-      let r₃ = first-zero _ _ (r₂ .1) (λ z. omega arith) in
-      let most = ltb-false eofMost e (r₂ .0) in
+      let r = rows-off _ z refl in
+      let R = opened len v p k octets (r 0) (r 1) (r 2) (r 3) (r 4) (r 5) (r 6) .ready in
+      let most = ltb-false eofMost e (r 8) in
       rw (R .sound .place)
       (end-set R e t (omega arith)
-      (rw (R .sound .place, R .kind) at (ltb-false (room (mapBlock v) v (total len)) (heightFor e - height (sort v a)) (r₃ .0))))
+      (rw (R .sound .place, R .kind) at (ltb-false (room (mapBlock v) v (total len)) (heightFor e - height (sort v a)) (r 9))))
 
-  pub set-eof-opened : setEof len v p k e t .number ≡ 0 → (rs : List Row) × Opened len v p k rs
+  pub set-eof-opened : setEof len v p k e t .number ≡ 0 → Opened len v p k
   unfolding setEof settle setEofNumber
-  set-eof-opened z = (_, opened len v p k _ octets z)
+  set-eof-opened z = let r = rows-off _ z refl in opened len v p k octets (r 0) (r 1) (r 2) (r 3) (r 4) (r 5) (r 6)
 
   pub set-eof-done : setEof len v p k e t .number ≡ 0 → Reset (total len) v a after e
   unfolding setEof settle
-  set-eof-done z = rw (settle-accepted _ nothing v nothing _ z .1) (new-done z)
+  set-eof-done z = rw (done-image _ nothing v nothing _ z) (new-done z)
 
   pub set-eof-sound : sound (total len) v ≡ true → sound (total len) after ≡ true
   unfolding setEof

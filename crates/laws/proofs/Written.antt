@@ -1,7 +1,6 @@
 -- Write keeps soundness and every other file as it was; the bytes read after it are the bytes written, all others are as before.
 use Prim.Native.Nat.{ℕ, _+_, _-_, _≤_, _<_, _/_, max}
 use mathlib.Core.Path.{_≡_, refl, sym, _∙_}
-use mathlib.Core.List.{List}
 use mathlib.Core.Bool.{Bool, true, false, false≢true}
 use lib.Dec.{eqb}
 use native.Mathlib.Omega.{arith}
@@ -15,8 +14,7 @@ use Rattle.model.specs.Write.{grown, grownKey, poured, touched, written, writeN
 use Rattle.model.specs.Calls.{total, home, spot, target}
 use Rattle.model.specs.Sound.{sound}
 use Rattle.model.specs.declared.Stamp.{Stamp}
-use Rattle.model.specs.Refusals.{Row, settle}
-use Rattle.model.proofs.RefusalLaws.{settle-accepted}
+use Rattle.model.specs.Refusals.{settle}
 use Rattle.laws.proofs.Sound.{facts-sound}
 use Rattle.laws.proofs.One.{Others}
 use Rattle.laws.proofs.Weigh.{has-key}
@@ -26,8 +24,8 @@ use Rattle.laws.proofs.Need.{need-keys, need-lacks}
 use Rattle.laws.proofs.Pour.{Poured, pour}
 use Rattle.laws.proofs.Entry.{Ready, fit, was-tall, height-most, eof-most, Done, called-done, called-byte}
 use Rattle.laws.proofs.Grown.{height-path, span-most, span-in, Grown, grow}
-use Rattle.laws.proofs.Lookup.{first-zero}
-use Rattle.laws.proofs.Settled.{settled, others-self}
+use Rattle.laws.proofs.Lookup.{rows-off}
+use Rattle.laws.proofs.Settled.{settled, done-image, others-self}
 use Rattle.laws.proofs.Paths.{names-self}
 use Rattle.laws.proofs.Opened.{Opened, opened}
 
@@ -79,9 +77,9 @@ module _ {n : ℕ} {v : Bytes} {a d h : ℕ} (R : Ready n v a d h) (pos size : �
       record {
         done = called-done R T end t small refl ends;
         inside = λ i l m.
-            called-byte R T end t small refl ends i (path (i / 512) (span-in end i (omega arith))) ∙ Q .inside i (omega arith) (omega arith) l m;
+            called-byte R T end t small refl ends i ∙ Q .inside i (omega arith) (omega arith) l m;
         outside = λ i l o.
-            called-byte R T end t small refl ends i (path (i / 512) (span-in end i (omega arith)))
+            called-byte R T end t small refl ends i
             ∙ Q .outside i (span-in end i (omega arith)) (λ _ _. o)
             ∙ G .below i l
             ∙ rw (R .kind) refl;
@@ -121,14 +119,11 @@ module _ (len : ℕ) (v p : Bytes) (k pos : ℕ) (buffer : Bytes) (size : ℕ) (
       → Wrote (total len) v a (elim (eqb size 0) [ true ↦ v | false ↦ written (mapBlock v) (total len) v a pos buffer size t ]) pos size buffer
   unfolding writeNumber
   new-done e =
-      let O = opened len v p k _ octets e in
-      let R = O .ready in
-      let r₁ = first-zero _ _ (O .rest) (λ z. omega arith) in
-      let r₂ = first-zero _ _ (r₁ .1) (λ z. omega arith) in
-      let r₃ = first-zero _ _ (r₂ .1) (λ z. omega arith) in
-      let o = or-none _ _ (r₂ .0) in
-      go (O .tall) R (ltb-false (eof v a) pos (o .0)) (ltb-false eofMost (pos + size) (o .1))
-      (ltb-false (room (mapBlock v) v (total len)) (writeNeed v a pos size) (r₃ .0)) (eqb size 0) refl
+      let r = rows-off _ e refl in
+      let O = opened len v p k octets (r 0) (r 1) (r 2) (r 3) (r 4) (r 5) (r 6) in
+      let o = or-none _ _ (r 8) in
+      go (O .tall) (O .ready) (ltb-false (eof v a) pos (o .0)) (ltb-false eofMost (pos + size) (o .1))
+      (ltb-false (room (mapBlock v) v (total len)) (writeNeed v a pos size) (r 9)) (eqb size 0) refl
     where
       go : (h : ℕ) → Ready (total len) v a (home (target v p k)) h → pos ≤ eof v a → pos + size ≤ eofMost → writeNeed v a pos size ≤ room (mapBlock v) v (total len)
           → (b : Bool) → eqb size 0 ≡ b
@@ -141,20 +136,17 @@ module _ (len : ℕ) (v p : Bytes) (k pos : ℕ) (buffer : Bytes) (size : ℕ) (
           rw (R .sound .place)
           (wrote R pos size buffer lent t (omega arith) (omega arith) (rw (R .sound .place, need-is) at enough))
 
-  pub write-opened : write len v p k pos buffer size t .number ≡ 0 → (rs : List Row) × Opened len v p k rs
+  pub write-opened : write len v p k pos buffer size t .number ≡ 0 → Opened len v p k
   unfolding write settle writeNumber
-  write-opened e = (_, opened len v p k _ octets e)
+  write-opened e = let r = rows-off _ e refl in opened len v p k octets (r 0) (r 1) (r 2) (r 3) (r 4) (r 5) (r 6)
 
   pub write-start : write len v p k pos buffer size t .number ≡ 0 → pos ≤ eof v a
   unfolding write settle writeNumber
-  write-start e =
-      let r₁ = first-zero _ _ (opened len v p k _ octets e .rest) (λ z. omega arith) in
-      let r₂ = first-zero _ _ (r₁ .1) (λ z. omega arith) in
-      ltb-false (eof v a) pos (or-none _ _ (r₂ .0) .0)
+  write-start e = ltb-false (eof v a) pos (or-none _ _ (rows-off _ e refl 8) .0)
 
   pub write-done : write len v p k pos buffer size t .number ≡ 0 → Wrote (total len) v a after pos size buffer
   unfolding write settle
-  write-done e = rw (settle-accepted _ 0 v size _ e .1) (new-done e)
+  write-done e = rw (done-image _ 0 v size _ e) (new-done e)
 
   pub write-sound : sound (total len) v ≡ true → sound (total len) after ≡ true
   unfolding write
