@@ -10,7 +10,7 @@ use native.Mathlib.Nat.{add-zero, add-assoc}
 use borrow.Author.Tests.{lt-leb}
 use Rattle.model.specs.Bytes.{Bytes, Octets, sum, count, run, is, one-if}
 use Rattle.model.specs.Names.{capitalName}
-use Rattle.model.specs.Map.{mapBlocks}
+use Rattle.model.specs.Map.{mapBlocks, free}
 use Rattle.model.specs.Kinds.{kindFor, kindNumber}
 use Rattle.model.specs.declared.Kind.the-variants.{Seedling, Sapling, Tree}
 use Rattle.model.specs.Directory.{directory, file, sort, isActive, isDirectory, access, at, directoryType, mapPlace, volume, volumeBlock, ftype, key, used, eof, directoryKey, kids}
@@ -26,7 +26,7 @@ use Rattle.laws.proofs.Total.{total-one}
 use Rattle.laws.proofs.Frame.{at-block, at-place, Alike, fileByte-same}
 use Rattle.laws.proofs.Sound.{deep, top, fixed, mine, Sound}
 use Rattle.laws.proofs.Keep.{head-name, field-at, eof-at, ftype-at, file-blocks, kids-same}
-use Rattle.laws.proofs.Facts.{FileRight, EntryRight, seen-file, kid-right, mine-in, mine-once, mine-map, mine-apart, placed-apart, directory-key, seen-directory}
+use Rattle.laws.proofs.Facts.{Seen, Inside, block-inside, FileRight, EntryRight, seen-file, kid-right, mine-in, mine-once, mine-map, mine-apart, placed-apart, directory-key, seen-directory}
 use Rattle.laws.proofs.One.{leaf, file-directory, Place, slot-placed, slot-mine, head-mine, slot-head, in-slot, in-file, Apart, Others, Step, Change, one-keeps, one-volume, one-entry, one-directory, one-sound, one-others}
 use Rattle.laws.proofs.Weigh.{Gauge, weigh, each, tardy, has, size, weigh-zero, weigh-same, nodes-count, nodes-length, blocks-length, nodes-late, nodes-outside}
 use Rattle.laws.proofs.Move.{by-zero, map-low, map-alike, Fit, Move, move-fit, fit-key}
@@ -69,6 +69,14 @@ module _ {n : ℕ} {v : Bytes} {a d h : ℕ} (R : Ready n v a d h) where
     where
       in-fixed : (b : ℕ) → 1 ≤ count b (run mapPlace (mapBlocks n)) → 1 ≤ count b (fixed n)
       in-fixed b m = unfold sum in omega arith
+
+  -- and they are nobody else's: no directory's, no other file's
+  pub own-right : (b : ℕ) → 1 ≤ count b (blocks v a)
+      → (count b (blocks v a) ≡ 1) × Inside n b × (free mapPlace v b ≡ 0) × ((x : ℕ) → Seen v x → 1 ≤ count b (blocks v x) → x ≡ a)
+  own-right b m =
+      let i = block-inside S a b (P .seen) m in
+      let one = fit .apart b (i .fits) in
+      (omega (arith, own-tree b), i, omega (arith, own-tree b), λ x s c. mine-apart S x a b s (P .seen) c m)
 
   right : FileRight n v h a
   right = seen-file S a h (P .seen) (R .kind)

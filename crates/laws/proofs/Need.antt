@@ -33,7 +33,7 @@ pub miss : Bytes → ℕ → ℕ → ℕ → ℕ
 miss w zero k p = 0
 miss w (suc h) k p = elim (eqb (pointer w k (above h p % 256)) 0) [ true ↦ suc h | false ↦ miss w h (pointer w k (above h p % 256)) p ]
 
-miss-hole : (h k p : ℕ) (w : Bytes) → pointer w k (above h p % 256) ≡ 0 → miss w (suc h) k p ≡ suc h
+pub miss-hole : (h k p : ℕ) (w : Bytes) → pointer w k (above h p % 256) ≡ 0 → miss w (suc h) k p ≡ suc h
 unfolding miss
 miss-hole h k p w e = rw (eq-eqb (pointer w k (above h p % 256)) 0 e, miss) refl
 

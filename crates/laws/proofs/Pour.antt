@@ -4,21 +4,23 @@ use mathlib.Core.Path.{_≡_, refl, sym, _∙_}
 use mathlib.Core.Bool.{Bool, true, false}
 use lib.Dec.{ltb, eqb}
 use native.Mathlib.Omega.{arith}
+use native.Mathlib.Nat.{add-zero, zero-add}
 use borrow.Author.Tests.{eqb-true, eqb-false, ltb-true, ltb-false}
 use Rattle.model.specs.Bytes.{Bytes, Octets, clear}
-use Rattle.model.specs.Map.{room}
+use Rattle.model.specs.Map.{room, lowest}
 use Rattle.model.specs.Directory.{mapPlace}
-use Rattle.model.specs.File.{span, above, dataBlock, fileByte}
+use Rattle.model.specs.File.{span, pointer, above, dataBlock, fileByte}
 use Rattle.model.specs.Grow.{zeroedFrom, backed}
 use Rattle.model.specs.Write.{laid, poured}
 use Rattle.model.proofs.ByteLaws.{at-or-off, paste-in, paste-out, octets-paste, clear-in, clear-out, octets-clear}
+use Rattle.model.proofs.BitLaws.{room-lowest}
 use Rattle.laws.proofs.Frame.{Alike}
 use Rattle.laws.proofs.Weigh.{Gauge, weigh, each, tardy, size}
 use Rattle.laws.proofs.Move.{Fit, Move, move-none, move-fit, move-then}
-use Rattle.laws.proofs.Take.{backed-work, Still, still-none, data-still}
+use Rattle.laws.proofs.Take.{Work, backed-work, Still, still-none, data-still}
 use Rattle.laws.proofs.Room.{move-room}
 use Rattle.laws.proofs.Data.{still-data, data-apart, file-hole, file-full, file-same, work-byte}
-use Rattle.laws.proofs.Need.{Complete, backed-complete, lacks, lacks-step, miss-lacks}
+use Rattle.laws.proofs.Need.{miss, miss-hole, backed-complete, lacks, lacks-step, miss-lacks}
 
 -- the place of byte i in its block, where s is the first byte laid and e the end
 record InBlock (b p pos s e i : ℕ) : Type 0 where
@@ -77,40 +79,77 @@ pub record Poured (n e : ℕ) (w : Bytes) (h k : ℕ) (w′ : Bytes) (p c pos : 
   pub inside : (i : ℕ) → p ≤ i / 512 → i / 512 < p + c → pos ≤ i → i < pos + size → fileByte w′ h k i ≡ buffer (i - pos)
   pub outside : (i : ℕ) → i / 512 < e → (p ≤ i / 512 → i / 512 < p + c → pos ≤ i → i < pos + size → ⊥) → fileByte w′ h k i ≡ fileByte w h k i
 
+-- one file block of them, with room for what c more miss
+record Advances (n e : ℕ) (w : Bytes) (h k p c : ℕ) (x y : Bytes) : Type 0 where
+  work : Work n e w h 0 k x h 0 k
+  there : dataBlock x h k p ≡ 0 → ⊥
+  still : Still n x h 0 k y
+  left : lacks y h k (p + 1) c ≤ room mapPlace y n
+
 module _ (n e h k pos size : ℕ) (buffer : Bytes) (octets : Octets buffer) (hl : h ≤ 2) (el : e ≤ 65536)
     (path : (r : ℕ) → r < e → 0 ≡ above h r) where
+  advance : (p c : ℕ) (w : Bytes) → p + suc c ≤ e → Fit n w h 0 k → lacks w h k p (suc c) ≤ room mapPlace w n
+      → Advances n e w h k p c (backed mapPlace n w h k p) (laid (backed mapPlace n w h k p) h k p pos buffer size)
+  advance p c w pe F m =
+      let pl : p < e = omega arith in
+      let A = backed-work n e h 0 k p w (path p pl) pl F in
+      let G = move-fit F (A .move) in
+      let C = backed-complete n e h 0 k p w (path p pl) pl F (omega (arith, m, miss-lacks w h k p c hl (omega arith))) in
+      let y = laid (backed mapPlace n w h k p) h k p pos buffer size in
+      let B : Still n (backed mapPlace n w h k p) h 0 k y = laid-still G p pos size buffer octets (C .there) in
+      let more : (g : Gauge) → weigh g w h 0 k ≤ weigh g y h 0 k = λ g. omega (arith, A .grows g, B .weights g) in
+      let there : dataBlock y h k p ≡ 0 → ⊥ = λ z. C .there (sym (still-data B p (path p pl)) ∙ z) in
+      record {
+        work = A;
+        there = C .there;
+        still = B;
+        left =
+            omega (
+              arith,
+              m,
+              lacks-step w y h k e p c hl el path pe more there,
+              C .more,
+              B .weights (each (λ _. 1)),
+              move-room F (move-then (A .move) (B .move)),
+            );
+      }
+
   pub pour : (p c : ℕ) (w : Bytes) → p + c ≤ e → Fit n w h 0 k → lacks w h k p c ≤ room mapPlace w n
       → Poured n e w h k (poured mapPlace n w h k p c pos buffer size) p c pos buffer size
   unfolding poured
   pour p zero w pe F m =
       record { move = move-none F; timely = λ t. t; inside = λ i a b. absurd (omega arith); outside = λ i l o. refl }
   pour p (suc c) w pe F m =
-      let pl : p < e = omega arith in
-      let x = backed mapPlace n w h k p in
-      let A = backed-work n e h 0 k p w (path p pl) pl F in
-      let G = move-fit F (A .move) in
-      let C : Complete h 0 k p w x = backed-complete n e h 0 k p w (path p pl) pl F (omega (arith, m, miss-lacks w h k p c hl (omega arith))) in
-      let y = laid x h k p pos buffer size in
-      let B = laid-still G p pos size buffer octets (C .there) in
-      let H = move-fit G (B .move) in
-      let more : (g : Gauge) → weigh g w h 0 k ≤ weigh g y h 0 k = λ g. omega (arith, A .grows g, B .weights g) in
-      let there : dataBlock y h k p ≡ 0 → ⊥ = λ z. C .there (sym (still-data B p (path p pl)) ∙ z) in
-      let less = lacks-step w y h k e p c hl el path pe more there in
-      let T = move-then (A .move) (B .move) in
-      let D =
-      pour (p + 1) c y (omega arith) H
-      (omega (arith, less, m, C .more, B .weights (each (λ _. 1)), move-room F T)) in
+      let at-p : 0 ≡ above h p = path p (omega arith) in
+      let A = advance p c w pe F m in
+      let G = move-fit F (A .work .move) in
+      let D = pour (p + 1) c _ (omega arith) (move-fit G (A .still .move)) (A .left) in
       record {
-        move = move-then T (D .move);
-        timely = λ t. D .timely (B .weights (tardy e) ∙ A .timely t);
+        move = move-then (A .work .move) (move-then (A .still .move) (D .move));
+        timely = λ t. D .timely (A .still .weights (tardy e) ∙ A .work .timely t);
         inside = λ i a b u v. at-or-off (i / 512) p
-            (λ t. D .outside i (omega arith) (λ f g _ _. omega arith) ∙ laid-in G p pos size buffer octets (C .there) i (path p pl) t u v)
+            (λ t. D .outside i (omega arith) (λ f g _ _. omega arith) ∙ laid-in G p pos size buffer octets (A .there) i at-p t u v)
             (λ t. D .inside i (omega arith) (omega arith) u v);
         outside = λ i l o.
             D .outside i l (λ a b. o (omega arith) (omega arith))
-            ∙ laid-off G p pos size buffer octets (C .there) i (path p pl) (path (i / 512) l) (λ t. o (omega arith) (omega arith))
-            ∙ work-byte A G i (path (i / 512) l) (path (i / 512) l);
+            ∙ laid-off G p pos size buffer octets (A .there) i at-p (path (i / 512) l) (λ t. o (omega arith) (omega arith))
+            ∙ work-byte (A .work) G i (path (i / 512) l) (path (i / 512) l);
       }
+
+  -- after each file block the tree is fit, and there is room for all that is still missing
+  pub on-way : (j p c : ℕ) (w : Bytes) → p + (j + c) ≤ e → Fit n w h 0 k → lacks w h k p (j + c) ≤ room mapPlace w n
+      → let x = poured mapPlace n w h k p j pos buffer size in Fit n x h 0 k × (lacks x h k (p + j) c ≤ room mapPlace x n)
+  unfolding poured
+  on-way zero p c w pe F m = (F, rw (add-zero p) (rw (zero-add c) at m))
+  on-way (suc j) p c w pe F m =
+      let s : suc j + c ≡ suc (j + c) = omega arith in
+      let t : p + suc j ≡ p + 1 + j = omega arith in
+      let A = advance p (j + c) w (rw s at pe) F (rw s at m) in
+      rw t (on-way j (p + 1) c _ (omega arith) (move-fit (move-fit F (A .work .move)) (A .still .move)) (A .left))
+
+-- what is missing is found: every block that is taken is on the volume
+pub missing-found : (n h k p : ℕ) (w : Bytes) → pointer w k (above h p % 256) ≡ 0 → miss w (suc h) k p ≤ room mapPlace w n → lowest mapPlace w n < n
+missing-found n h k p w e m = room-lowest mapPlace w n (omega (arith, rw (miss-hole h k p w e) at m))
 
 -- The bytes at EOF and after.
 span-next : (e : ℕ) → span e ≤ e / 512 + 1

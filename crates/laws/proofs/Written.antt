@@ -18,10 +18,10 @@ use Rattle.model.specs.Refusals.{settle}
 use Rattle.laws.proofs.Sound.{facts-sound}
 use Rattle.laws.proofs.One.{Others}
 use Rattle.laws.proofs.Weigh.{has-key}
-use Rattle.laws.proofs.Move.{move-fit, move-then, fit-some}
+use Rattle.laws.proofs.Move.{Fit, move-fit, move-then, fit-some}
 use Rattle.laws.proofs.Room.{move-room}
-use Rattle.laws.proofs.Need.{need-keys, need-lacks}
-use Rattle.laws.proofs.Pour.{Poured, pour}
+use Rattle.laws.proofs.Need.{lacks, need-keys, need-lacks}
+use Rattle.laws.proofs.Pour.{Poured, pour, on-way}
 use Rattle.laws.proofs.Entry.{Ready, fit, was-tall, height-most, eof-most, Done, called-done, called-byte}
 use Rattle.laws.proofs.Grown.{height-path, span-most, span-in, Grown, grow}
 use Rattle.laws.proofs.Lookup.{rows-off}
@@ -53,13 +53,14 @@ module _ {n : ℕ} {v : Bytes} {a d h : ℕ} (R : Ready n v a d h) (pos size : �
   last : pos / 512 + touched pos size ≤ span end
   last = omega (arith, span-in end (pos + size - 1) (omega arith))
 
-  Q : Poured n (span end) (grown mapPlace n v a end) (heightFor end) (grownKey mapPlace n v a end)
-      (poured mapPlace n (grown mapPlace n v a end) (heightFor end) (grownKey mapPlace n v a end) (pos / 512) (touched pos size) pos buffer size)
-      (pos / 512) (touched pos size) pos buffer size
-  Q =
-      pour n (span end) (heightFor end) (grownKey mapPlace n v a end) pos size buffer octets (height-most end) (span-most end small) path
-      (pos / 512) (touched pos size) (grown mapPlace n v a end) last (move-fit (fit R) (G .move))
-      (omega (
+  T : Fit n (grown mapPlace n v a end) (heightFor end) 0 (grownKey mapPlace n v a end)
+  T = move-fit (fit R) (G .move)
+
+  -- the need was counted before
+  left : lacks (grown mapPlace n v a end) (heightFor end) (grownKey mapPlace n v a end) (pos / 512) (touched pos size)
+      ≤ room mapPlace (grown mapPlace n v a end) n
+  left =
+      omega (
         arith,
         enough,
         G .more,
@@ -67,19 +68,35 @@ module _ {n : ℕ} {v : Bytes} {a d h : ℕ} (R : Ready n v a d h) (pos size : �
         need-lacks v h (key v a) (grown mapPlace n v a end) (heightFor end) (grownKey mapPlace n v a end) (span end) (pos / 512) (touched pos size)
             (rw (was-tall R) (height-most (eof v a))) (fit-some (fit R) (key v a) (has-key v h 0 (key v a))) (G .grows) (span-most end small) path last
             (omega arith),
-      ))
+      )
+
+  Q : Poured n (span end) (grown mapPlace n v a end) (heightFor end) (grownKey mapPlace n v a end)
+      (poured mapPlace n (grown mapPlace n v a end) (heightFor end) (grownKey mapPlace n v a end) (pos / 512) (touched pos size) pos buffer size)
+      (pos / 512) (touched pos size) pos buffer size
+  Q =
+      pour n (span end) (heightFor end) (grownKey mapPlace n v a end) pos size buffer octets (height-most end) (span-most end small) path
+      (pos / 512) (touched pos size) (grown mapPlace n v a end) last T left
+
+  -- on the way, after j of the file blocks
+  pub wrote-way : (j c : ℕ) → j + c ≡ touched pos size
+      → let x = poured mapPlace n (grown mapPlace n v a end) (heightFor end) (grownKey mapPlace n v a end) (pos / 512) j pos buffer size in
+      Fit n x (heightFor end) 0 (grownKey mapPlace n v a end)
+      × (lacks x (heightFor end) (grownKey mapPlace n v a end) (pos / 512 + j) c ≤ room mapPlace x n)
+  wrote-way j c e =
+      on-way n (span end) (heightFor end) (grownKey mapPlace n v a end) pos size buffer octets (height-most end) (span-most end small) path
+      j (pos / 512) c (grown mapPlace n v a end) (rw e last) T (rw e left)
 
   pub wrote : Wrote n v a (written mapPlace n v a pos buffer size t) pos size buffer
   unfolding written
   wrote =
-      let T = move-then (G .move) (Q .move) in
+      let M = move-then (G .move) (Q .move) in
       let ends = Q .timely (G .ends) in
       record {
-        done = called-done R T end t small refl ends;
+        done = called-done R M end t small refl ends;
         inside = λ i l m.
-            called-byte R T end t small refl ends i ∙ Q .inside i (omega arith) (omega arith) l m;
+            called-byte R M end t small refl ends i ∙ Q .inside i (omega arith) (omega arith) l m;
         outside = λ i l o.
-            called-byte R T end t small refl ends i
+            called-byte R M end t small refl ends i
             ∙ Q .outside i (span-in end i (omega arith)) (λ _ _. o)
             ∙ G .below i l
             ∙ rw (R .kind) refl;
