@@ -24,7 +24,7 @@ spot r b zero s x = when (eqb r s) (is b x) 0
 spot r b (suc l) s x = 0
 
 module _ (r b : ℕ) (w : Bytes) where
-  spot-off : (h s k : ℕ) → (s ≡ above h r → ⊥) → weigh (spot r b) w h s k ≡ 0
+  pub spot-off : (h s k : ℕ) → (s ≡ above h r → ⊥) → weigh (spot r b) w h s k ≡ 0
   unfolding weigh above
   spot-off zero s k d = rw (ne-eqb r s (λ e. d (sym e))) refl
   spot-off (suc h) s k d =

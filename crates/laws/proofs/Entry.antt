@@ -10,7 +10,7 @@ use native.Mathlib.Nat.{add-zero, add-assoc}
 use borrow.Author.Tests.{lt-leb}
 use Rattle.model.specs.Bytes.{Bytes, Octets, sum, count, run, is, one-if}
 use Rattle.model.specs.Names.{capitalName}
-use Rattle.model.specs.Map.{mapBlocks, free}
+use Rattle.model.specs.Map.{mapBlocks, free, room}
 use Rattle.model.specs.Kinds.{kindFor, kindNumber}
 use Rattle.model.specs.declared.Kind.the-variants.{Seedling, Sapling, Tree}
 use Rattle.model.specs.Directory.{directory, file, sort, isActive, isDirectory, access, at, directoryType, mapPlace, volume, volumeBlock, ftype, key, used, eof, directoryKey, kids}
@@ -19,7 +19,7 @@ use Rattle.model.specs.Sound.{outside, late, fileFaults, faultsOf, faults}
 use Rattle.model.specs.Calls.{allows, readBit}
 use Rattle.model.specs.Write.{noted}
 use Rattle.model.specs.declared.Stamp.{Stamp}
-use Rattle.model.proofs.BitLaws.{is-yes, is-no, MapSame, same-free, same-rest}
+use Rattle.model.proofs.BitLaws.{is-yes, is-no, MapSame, same-free, same-room, same-rest}
 use Rattle.model.proofs.ByteLaws.{at-or-off, word-same, long-bound}
 use Rattle.model.proofs.SumLaws.{count-none, run-has}
 use Rattle.laws.proofs.Total.{total-one}
@@ -83,6 +83,9 @@ module _ {n : ℕ} {v : Bytes} {a d h : ℕ} (R : Ready n v a d h) where
 
   pub was-tall : h ≡ heightFor (eof v a)
   was-tall = right .tall
+
+  pub was-used : used v a ≡ size v h 0 (key v a)
+  was-used = right .counted ∙ ap length (file-blocks v a h (R .kind)) ∙ blocks-length v h 0 (key v a)
 
   pub was-late : weigh (tardy (span (eof v a))) v h 0 (key v a) ≡ 0
   was-late = sym (nodes-late v h 0 (key v a) (span (eof v a))) ∙ right .ended
@@ -176,6 +179,9 @@ module _ {n : ℕ} {v : Bytes} {a d h : ℕ} (R : Ready n v a d h) {w : Bytes} {
   map-called : MapSame mapPlace n w called
   map-called = map-alike n w called (λ b p q. beside b (λ z. mine-map S (a / 13) (slot-mine S P) (rw (← z) p) (rw (← z) q)))
 
+  pub called-room : room mapPlace called n ≡ room mapPlace w n
+  called-room = same-room mapPlace n w called map-called
+
   called-sort : sort called a ≡ file g
   called-sort = noted-sort w a g k e t (P .proper) low
 
@@ -185,7 +191,7 @@ module _ {n : ℕ} {v : Bytes} {a d h : ℕ} (R : Ready n v a d h) {w : Bytes} {
   called-eof : eof called a ≡ e
   called-eof = noted-eof w a g k e t (P .proper) small
 
-  called-used : used called a ≡ size w g 0 k
+  pub called-used : used called a ≡ size w g 0 k
   called-used = noted-used w a g k e t (P .proper) (omega (arith, few, size-most W, S .small)) ∙ few
 
   near : Near v called (at a)

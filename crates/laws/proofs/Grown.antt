@@ -13,10 +13,10 @@ use Rattle.model.specs.Directory.{mapPlace, key, eof}
 use Rattle.model.specs.File.{span, heightFor, height, above, firstBelow, fileByte}
 use Rattle.model.specs.Grow.{zeroedFrom, raised, raisedKey}
 use Rattle.model.specs.Write.{grown, grownKey}
-use Rattle.laws.proofs.Weigh.{Gauge, weigh, each, tardy, size, weigh-le}
+use Rattle.laws.proofs.Weigh.{weigh, each, tardy, size, weigh-le}
 use Rattle.laws.proofs.Move.{by-lt, Fit, Move, move-fit, move-then}
 use Rattle.laws.proofs.Take.{Still, still-none}
-use Rattle.laws.proofs.Room.{move-room, Raised, raised-work}
+use Rattle.laws.proofs.Room.{move-room, Keyed, Raised, raised-work}
 use Rattle.laws.proofs.Data.{late-hole, work-zero, work-byte}
 use Rattle.laws.proofs.Pour.{zeroed}
 use Rattle.laws.proofs.Entry.{Ready, fit, was-tall, was-late, eof-most}
@@ -79,7 +79,7 @@ late-le s t v h q k l z =
 pub record Grown (n : ℕ) (v : Bytes) (h k o : ℕ) (w : Bytes) (g l e : ℕ) : Type 0 where
   pub move : Move n v h 0 k w g 0 l
   pub ends : weigh (tardy (span e)) w g 0 l ≡ 0
-  pub grows : (x : Gauge) → weigh x v h 0 k ≤ weigh x w g 0 l
+  pub keyed : Keyed v h k w g l
   pub more : size w g 0 l ≡ size v h 0 k + (g - h)
   pub below : (i : ℕ) → i < o → fileByte w g l i ≡ fileByte v h k i
   pub past : (i : ℕ) → o ≤ i → i < e → fileByte w g l i ≡ 0
@@ -113,7 +113,7 @@ module _ {n : ℕ} {v : Bytes} {a d h : ℕ} (R : Ready n v a d h) (e : ℕ) (lo
       record {
         move = move-then (A .move) (B .work .move);
         ends = B .work .timely (late-le (span (eof v a)) (span e) f h 0 (key v a) (span-le (eof v a) e longer) late);
-        grows = λ x. omega (arith, A .weights x, B .work .grows x);
+        keyed = λ x o. B .keyed x o ∙ A .weights x;
         more = omega (arith, A .weights (each (λ _. 1)), B .more);
         below = λ i l.
             work-byte (B .work) H i (new-path i (omega arith)) (old-path (i / 512) (span-in (eof v a) i l)) ∙ Z .below i l;

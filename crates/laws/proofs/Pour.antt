@@ -15,12 +15,12 @@ use Rattle.model.specs.Write.{laid, poured}
 use Rattle.model.proofs.ByteLaws.{at-or-off, paste-in, paste-out, octets-paste, clear-in, clear-out, octets-clear}
 use Rattle.model.proofs.BitLaws.{room-lowest}
 use Rattle.laws.proofs.Frame.{Alike}
-use Rattle.laws.proofs.Weigh.{Gauge, weigh, each, tardy, size}
-use Rattle.laws.proofs.Move.{Fit, Move, move-none, move-fit, move-then}
+use Rattle.laws.proofs.Weigh.{Gauge, weigh, each, tardy, size as blocks, has-key}
+use Rattle.laws.proofs.Move.{Fit, Move, move-none, move-fit, move-then, fit-some}
 use Rattle.laws.proofs.Take.{Work, backed-work, Still, still-none, data-still}
 use Rattle.laws.proofs.Room.{move-room}
-use Rattle.laws.proofs.Data.{still-data, data-apart, file-hole, file-full, file-same, work-byte}
-use Rattle.laws.proofs.Need.{miss, miss-hole, backed-complete, lacks, lacks-step, miss-lacks}
+use Rattle.laws.proofs.Data.{still-data, grown-data, data-apart, file-hole, file-full, file-same, work-byte}
+use Rattle.laws.proofs.Need.{miss, miss-hole, backed-complete, backed-aside, lacks, lacks-step, miss-lacks}
 
 -- the place of byte i in its block, where s is the first byte laid and e the end
 record InBlock (b p pos s e i : ℕ) : Type 0 where
@@ -76,15 +76,18 @@ module _ {n : ℕ} {w : Bytes} {h q k : ℕ} (F : Fit n w h q k) (p pos size : �
 pub record Poured (n e : ℕ) (w : Bytes) (h k : ℕ) (w′ : Bytes) (p c pos : ℕ) (buffer : Bytes) (size : ℕ) : Type 0 where
   pub move : Move n w h 0 k w′ h 0 k
   pub timely : weigh (tardy e) w h 0 k ≡ 0 → weigh (tardy e) w′ h 0 k ≡ 0
+  pub grows : (g : Gauge) → weigh g w h 0 k ≤ weigh g w′ h 0 k
+  pub full : (r : ℕ) → p ≤ r → r < p + c → dataBlock w′ h k r ≡ 0 → ⊥
+  pub more : blocks w′ h 0 k + lacks w′ h k (p + c) 0 ≡ blocks w h 0 k + lacks w h k p c
   pub inside : (i : ℕ) → p ≤ i / 512 → i / 512 < p + c → pos ≤ i → i < pos + size → fileByte w′ h k i ≡ buffer (i - pos)
   pub outside : (i : ℕ) → i / 512 < e → (p ≤ i / 512 → i / 512 < p + c → pos ≤ i → i < pos + size → ⊥) → fileByte w′ h k i ≡ fileByte w h k i
 
--- one file block of them, with room for what c more miss
+-- one file block of them: what it misses is taken, and c more miss just the rest
 record Advances (n e : ℕ) (w : Bytes) (h k p c : ℕ) (x y : Bytes) : Type 0 where
   work : Work n e w h 0 k x h 0 k
   there : dataBlock x h k p ≡ 0 → ⊥
   still : Still n x h 0 k y
-  left : lacks y h k (p + 1) c ≤ room mapPlace y n
+  more : blocks y h 0 k + lacks y h k (p + 1) c ≡ blocks w h 0 k + lacks w h k p (suc c)
 
 module _ (n e h k pos size : ℕ) (buffer : Bytes) (octets : Octets buffer) (hl : h ≤ 2) (el : e ≤ 65536)
     (path : (r : ℕ) → r < e → 0 ≡ above h r) where
@@ -97,36 +100,45 @@ module _ (n e h k pos size : ℕ) (buffer : Bytes) (octets : Octets buffer) (hl 
       let C = backed-complete n e h 0 k p w (path p pl) pl F (omega (arith, m, miss-lacks w h k p c hl (omega arith))) in
       let y = laid (backed mapPlace n w h k p) h k p pos buffer size in
       let B : Still n (backed mapPlace n w h k p) h 0 k y = laid-still G p pos size buffer octets (C .there) in
-      let more : (g : Gauge) → weigh g w h 0 k ≤ weigh g y h 0 k = λ g. omega (arith, A .grows g, B .weights g) in
-      let there : dataBlock y h k p ≡ 0 → ⊥ = λ z. C .there (sym (still-data B p (path p pl)) ∙ z) in
-      record {
-        work = A;
-        there = C .there;
-        still = B;
-        left =
-            omega (
-              arith,
-              m,
-              lacks-step w y h k e p c hl el path pe more there,
-              C .more,
-              B .weights (each (λ _. 1)),
-              move-room F (move-then (A .move) (B .move)),
-            );
-      }
+      let less =
+        lacks-step w y h k e p c hl el path pe (fit-some F k (has-key w h 0 k))
+        (λ g o. B .weights g ∙ backed-aside g n e h 0 k p w o (path p pl) pl F) (λ z. C .there (sym (still-data B p (path p pl)) ∙ z)) in
+      record { work = A; there = C .there; still = B; more = omega (arith, less, C .more, B .weights (each (λ _. 1))) }
+
+  left : {p c : ℕ} {w x y : Bytes} → Fit n w h 0 k → lacks w h k p (suc c) ≤ room mapPlace w n → Advances n e w h k p c x y
+      → lacks y h k (p + 1) c ≤ room mapPlace y n
+  left F m A = omega (arith, m, A .more, move-room F (move-then (A .work .move) (A .still .move)))
 
   pub pour : (p c : ℕ) (w : Bytes) → p + c ≤ e → Fit n w h 0 k → lacks w h k p c ≤ room mapPlace w n
       → Poured n e w h k (poured mapPlace n w h k p c pos buffer size) p c pos buffer size
   unfolding poured
   pour p zero w pe F m =
-      record { move = move-none F; timely = λ t. t; inside = λ i a b. absurd (omega arith); outside = λ i l o. refl }
+      record {
+        move = move-none F;
+        timely = λ t. t;
+        grows = λ g. omega arith;
+        full = λ r a b. absurd (omega arith);
+        more = rw (add-zero p) refl;
+        inside = λ i a b. absurd (omega arith);
+        outside = λ i l o. refl;
+      }
   pour p (suc c) w pe F m =
       let at-p : 0 ≡ above h p = path p (omega arith) in
       let A = advance p c w pe F m in
       let G = move-fit F (A .work .move) in
-      let D = pour (p + 1) c _ (omega arith) (move-fit G (A .still .move)) (A .left) in
+      let D = pour (p + 1) c _ (omega arith) (move-fit G (A .still .move)) (left F m A) in
+      let s : p + suc c ≡ p + 1 + c = omega arith in
       record {
         move = move-then (A .work .move) (move-then (A .still .move) (D .move));
         timely = λ t. D .timely (A .still .weights (tardy e) ∙ A .work .timely t);
+        grows = λ g. omega (arith, A .work .grows g, A .still .weights g, D .grows g);
+        full = λ r a b z. at-or-off r p
+            (λ t.
+            let there : dataBlock (laid (backed mapPlace n w h k p) h k p pos buffer size) h k p ≡ 0 → ⊥ =
+              λ y. A .there (sym (still-data (A .still) p at-p) ∙ y) in
+            there (sym (grown-data _ h 0 k _ h 0 k p (D .grows) at-p at-p there) ∙ rw t at z))
+            (λ t. D .full r (omega arith) (omega arith) z);
+        more = rw s (D .more ∙ A .more);
         inside = λ i a b u v. at-or-off (i / 512) p
             (λ t. D .outside i (omega arith) (λ f g _ _. omega arith) ∙ laid-in G p pos size buffer octets (A .there) i at-p t u v)
             (λ t. D .inside i (omega arith) (omega arith) u v);
@@ -145,7 +157,7 @@ module _ (n e h k pos size : ℕ) (buffer : Bytes) (octets : Octets buffer) (hl 
       let s : suc j + c ≡ suc (j + c) = omega arith in
       let t : p + suc j ≡ p + 1 + j = omega arith in
       let A = advance p (j + c) w (rw s at pe) F (rw s at m) in
-      rw t (on-way j (p + 1) c _ (omega arith) (move-fit (move-fit F (A .work .move)) (A .still .move)) (A .left))
+      rw t (on-way j (p + 1) c _ (omega arith) (move-fit (move-fit F (A .work .move)) (A .still .move)) (left F (rw s at m) A))
 
 -- what is missing is found: every block that is taken is on the volume
 pub missing-found : (n h k p : ℕ) (w : Bytes) → pointer w k (above h p % 256) ≡ 0 → miss w (suc h) k p ≤ room mapPlace w n → lowest mapPlace w n < n

@@ -10,7 +10,7 @@ use Rattle.model.specs.File.{firstBelow}
 use Rattle.model.specs.Grow.{topped, raised, raisedKey}
 use Rattle.model.proofs.BitLaws.{is-no, lowest-free, room-lowest}
 use Rattle.model.proofs.SumLaws.{is-self}
-use Rattle.laws.proofs.Weigh.{upto, upto-eq, upto-add, upto-one, upto-zero, upto-ones, weigh, each, tardy, has, size, weigh-add, weigh-le, weigh-zero, leaves, has-split}
+use Rattle.laws.proofs.Weigh.{upto, upto-eq, upto-add, upto-one, upto-zero, upto-ones, weigh, each, tardy, has, size, weigh-add, weigh-le, weigh-zero, leaves, has-split, Gauge}
 use Rattle.laws.proofs.Move.{Fit, Move, move-fit, fit-off, free-out}
 use Rattle.laws.proofs.Take.{topped-move, topped-weigh, topped-kept, Work, work-none, work-then}
 
@@ -76,15 +76,20 @@ topped-work {w = w} {h} {k} e some F z zn zf =
       fresh = λ b m y. absurd (omega (arith, topped-weigh F z zn zf (leaves b)));
     }
 
+-- growth by new keys alone: nodes of number 0 above the height h
+abbrev pub Keyed : Bytes → ℕ → ℕ → Bytes → ℕ → ℕ → Type 0
+Keyed v h k w g l = (x : Gauge) → ((m b : ℕ) → h ≤ m → x (suc m) 0 b ≡ 0) → weigh x w g 0 l ≡ weigh x v h 0 k
+
 -- with room for c new keys, c are taken
 pub record Raised (n e c : ℕ) (w : Bytes) (h k : ℕ) (w′ : Bytes) (h′ k′ : ℕ) : Type 0 where
   pub work : Work n e w h 0 k w′ h′ 0 k′
   pub more : size w′ h′ 0 k′ ≡ size w h 0 k + c
+  pub keyed : Keyed w h k w′ h′ k′
 
 pub raised-work : (n e c h h′ k : ℕ) (w : Bytes) → 1 ≤ e → h′ ≡ c + h → Fit n w h 0 k → c ≤ room mapPlace w n
     → Raised n e c w h k (raised mapPlace n w k c) h′ (raisedKey mapPlace n w k c)
 unfolding raised raisedKey
-raised-work n e zero h h′ k w some s F l = let t : h′ ≡ h = omega arith in rw t (record { work = work-none e F; more = omega arith })
+raised-work n e zero h h′ k w some s F l = let t : h′ ≡ h = omega arith in rw t (record { work = work-none e F; more = omega arith; keyed = λ x o. refl })
 raised-work n e (suc c) h h′ k w some s F l =
     let z = lowest mapPlace w n in
     let zn = room-lowest mapPlace w n (omega arith) in
@@ -92,4 +97,8 @@ raised-work n e (suc c) h h′ k w some s F l =
     let A = topped-work e some F z zn zf in
     let one = topped-weigh F z zn zf (each (λ _. 1)) in
     let R = raised-work n e c (suc h) h′ z (topped mapPlace w k z) some (omega arith) (move-fit F (A .move)) (omega (arith, move-room F (A .move), one)) in
-    record { work = work-then A (R .work); more = omega (arith, R .more, one) }
+    record {
+      work = work-then A (R .work);
+      more = omega (arith, R .more, one);
+      keyed = λ x o. R .keyed x (λ m b t. o m b (omega arith)) ∙ topped-weigh F z zn zf x ∙ rw (o h z (omega arith)) (omega arith);
+    }

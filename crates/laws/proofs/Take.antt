@@ -83,7 +83,7 @@ module _ {n : ℕ} {w : Bytes} {h q k : ℕ} (F : Fit n w (suc h) q k) (i z : �
             hung-kept b (free-out F z zn zf b some) (fit-off F b some) (λ e. omega (arith, F .apart b (F .range b some), is-yes b k e))))),
       )
 
-  hung-move : Move n w (suc h) q k hung (suc h) q k
+  pub hung-move : Move n w (suc h) q k hung (suc h) q k
   hung-move =
       record {
         bytes = tied-bytes F z zn zf k i z il;

@@ -7,7 +7,7 @@ use native.Mathlib.Omega.{arith}
 use borrow.Author.Tests.{eqb-true, eqb-false, ltb-false}
 use Rattle.model.specs.Bytes.{Bytes, Octets, _or_}
 use Rattle.model.specs.Map.{room}
-use Rattle.model.specs.Directory.{mapPlace, mapBlock, key, eof}
+use Rattle.model.specs.Directory.{used, mapPlace, mapBlock, key, eof}
 use Rattle.model.specs.File.{eofMost, span, heightFor, above, content}
 use Rattle.model.specs.Grow.{need}
 use Rattle.model.specs.Write.{grown, grownKey, poured, touched, written, writeNeed, writeNumber, write}
@@ -17,12 +17,12 @@ use Rattle.model.specs.declared.Stamp.{Stamp}
 use Rattle.model.specs.Refusals.{settle}
 use Rattle.laws.proofs.Sound.{facts-sound}
 use Rattle.laws.proofs.One.{Others}
-use Rattle.laws.proofs.Weigh.{has-key}
+use Rattle.laws.proofs.Weigh.{has-key, size as size-of}
 use Rattle.laws.proofs.Move.{Fit, move-fit, move-then, fit-some}
 use Rattle.laws.proofs.Room.{move-room}
-use Rattle.laws.proofs.Need.{lacks, need-keys, need-lacks}
+use Rattle.laws.proofs.Need.{lacks, lacks-none, need-keys, need-lacks}
 use Rattle.laws.proofs.Pour.{Poured, pour, on-way}
-use Rattle.laws.proofs.Entry.{Ready, fit, was-tall, height-most, eof-most, Done, called-done, called-byte}
+use Rattle.laws.proofs.Entry.{Ready, fit, was-tall, height-most, eof-most, was-used, Done, called-done, called-used, called-room, called-byte}
 use Rattle.laws.proofs.Grown.{height-path, span-most, span-in, Grown, grow}
 use Rattle.laws.proofs.Lookup.{rows-off}
 use Rattle.laws.proofs.Settled.{settled, done-image, others-self}
@@ -32,6 +32,9 @@ use Rattle.laws.proofs.Opened.{Opened, opened}
 -- What a write of size bytes at pos does to the file a.
 pub record Wrote (n : ℕ) (v : Bytes) (a : ℕ) (w : Bytes) (pos size : ℕ) (buffer : Bytes) : Type 0 where
   pub done : Done n v a w (max (eof v a) (pos + size))
+  -- just as many blocks are taken as the need says
+  pub takes : used w a ≡ used v a + writeNeed v a pos size
+  pub spends : room mapPlace w n + writeNeed v a pos size ≡ room mapPlace v n
   pub inside : (i : ℕ) → pos ≤ i → i < pos + size → content w a i ≡ buffer (i - pos)
   pub outside : (i : ℕ) → i < eof v a → (pos ≤ i → i < pos + size → ⊥) → content w a i ≡ content v a i
 
@@ -56,19 +59,19 @@ module _ {n : ℕ} {v : Bytes} {a d h : ℕ} (R : Ready n v a d h) (pos size : �
   T : Fit n (grown mapPlace n v a end) (heightFor end) 0 (grownKey mapPlace n v a end)
   T = move-fit (fit R) (G .move)
 
+  abbrev needed : ℕ
+  needed = need v h (key v a) (heightFor end) (pos / 512) (touched pos size)
+
   -- the need was counted before
+  counted : (heightFor end - h) + lacks (grown mapPlace n v a end) (heightFor end) (grownKey mapPlace n v a end) (pos / 512) (touched pos size) ≡ needed
+  counted =
+      need-lacks v h (key v a) (grown mapPlace n v a end) (heightFor end) (grownKey mapPlace n v a end) (span end) (pos / 512) (touched pos size)
+      (rw (was-tall R) (height-most (eof v a))) (fit-some (fit R) (key v a) (has-key v h 0 (key v a))) (G .keyed) (span-most end small) path last
+      (omega arith)
+
   left : lacks (grown mapPlace n v a end) (heightFor end) (grownKey mapPlace n v a end) (pos / 512) (touched pos size)
       ≤ room mapPlace (grown mapPlace n v a end) n
-  left =
-      omega (
-        arith,
-        enough,
-        G .more,
-        move-room (fit R) (G .move),
-        need-lacks v h (key v a) (grown mapPlace n v a end) (heightFor end) (grownKey mapPlace n v a end) (span end) (pos / 512) (touched pos size)
-            (rw (was-tall R) (height-most (eof v a))) (fit-some (fit R) (key v a) (has-key v h 0 (key v a))) (G .grows) (span-most end small) path last
-            (omega arith),
-      )
+  left = omega (arith, enough, G .more, move-room (fit R) (G .move), counted)
 
   Q : Poured n (span end) (grown mapPlace n v a end) (heightFor end) (grownKey mapPlace n v a end)
       (poured mapPlace n (grown mapPlace n v a end) (heightFor end) (grownKey mapPlace n v a end) (pos / 512) (touched pos size) pos buffer size)
@@ -86,13 +89,32 @@ module _ {n : ℕ} {v : Bytes} {a d h : ℕ} (R : Ready n v a d h) (pos size : �
       on-way n (span end) (heightFor end) (grownKey mapPlace n v a end) pos size buffer octets (height-most end) (span-most end small) path
       j (pos / 512) c (grown mapPlace n v a end) (rw e last) T (rw e left)
 
-  pub wrote : Wrote n v a (written mapPlace n v a pos buffer size t) pos size buffer
-  unfolding written
-  wrote =
+  final : ℕ
+  final = size-of (poured mapPlace n (grown mapPlace n v a end) (heightFor end) (grownKey mapPlace n v a end) (pos / 512) (touched pos size) pos buffer size)
+      (heightFor end) 0 (grownKey mapPlace n v a end)
+
+  grown-by : final ≡ size-of v h 0 (key v a) + needed
+  unfolding final
+  grown-by =
+      let s : pos / 512 + touched pos size ≡ pos / 512 + touched pos size - 1 + 1 = omega arith in
+      omega (
+        arith,
+        counted,
+        G .more,
+        rw s at (Q .more),
+        lacks-none _ (heightFor end) (grownKey mapPlace n v a end) (pos / 512 + touched pos size - 1) (height-most end)
+            (omega (arith, span-most end small, last)) (Q .full (pos / 512 + touched pos size - 1) (omega arith) (omega arith)),
+      )
+
+  pub wrote : writeNeed v a pos size ≡ needed → Wrote n v a (written mapPlace n v a pos buffer size t) pos size buffer
+  unfolding written final
+  wrote is-need =
       let M = move-then (G .move) (Q .move) in
       let ends = Q .timely (G .ends) in
       record {
         done = called-done R M end t small refl ends;
+        takes = omega (arith, is-need, grown-by, was-used R, called-used R M end t small refl ends);
+        spends = omega (arith, is-need, grown-by, move-room (fit R) M, called-room R M end t small refl ends);
         inside = λ i l m.
             called-byte R M end t small refl ends i ∙ Q .inside i (omega arith) (omega arith) l m;
         outside = λ i l o.
@@ -101,6 +123,10 @@ module _ {n : ℕ} {v : Bytes} {a d h : ℕ} (R : Ready n v a d h) (pos size : �
             ∙ G .below i l
             ∙ rw (R .kind) refl;
       }
+
+no-need : (v : Bytes) (a pos : ℕ) → writeNeed v a pos 0 ≡ 0
+unfolding writeNeed
+no-need v a pos = refl
 
 or-none : (p q : Bool) → (p or q) ≡ false → (p ≡ false) × (q ≡ false)
 unfolding _or_
@@ -128,6 +154,8 @@ module _ (len : ℕ) (v p : Bytes) (k pos : ℕ) (buffer : Bytes) (size : ℕ) (
               plain = rw (R .kind) refl;
               readable = refl;
             };
+        takes = omega (arith, no-need v a pos);
+        spends = omega (arith, no-need v a pos);
         inside = λ i x y. absurd (omega arith);
         outside = λ i x y. refl;
       }
@@ -151,7 +179,7 @@ module _ (len : ℕ) (v p : Bytes) (k pos : ℕ) (buffer : Bytes) (size : ℕ) (
           let need-is : writeNeed v a pos size ≡ need v h (key v a) (heightFor (max (eof v a) (pos + size))) (pos / 512) (touched pos size) =
           unfold writeNeed in rw (z, writeNeed) (rw (R .kind) refl) in
           rw (R .sound .place)
-          (wrote R pos size buffer lent t (omega arith) (omega arith) (rw (R .sound .place, need-is) at enough))
+          (wrote R pos size buffer lent t (omega arith) (omega arith) (rw (R .sound .place, need-is) at enough) need-is)
 
   pub write-opened : write len v p k pos buffer size t .number ≡ 0 → Opened len v p k
   unfolding write settle writeNumber
