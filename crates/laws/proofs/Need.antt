@@ -230,17 +230,17 @@ miss-one w k p =
     at-or-off (pointer w k (above 0 p % 256)) 0
     (λ e. rw (miss-hole 0 k p w e, data-hole 0 k p w e) (sym (is-self 0)))
     (λ d.
-      let c = pointer w k (above 0 p % 256) in
-      let e : dataBlock w 1 k p ≡ c = data-at 0 k p c w refl d ∙ (unfold dataBlock in refl) in
-      rw (miss-full 0 k p w d, e, is-no c 0 d) (unfold miss in refl))
+    let c = pointer w k (above 0 p % 256) in
+    let e : dataBlock w 1 k p ≡ c = data-at 0 k p c w refl d ∙ (unfold dataBlock in refl) in
+    rw (miss-full 0 k p w d, e, is-no c 0 d) (unfold miss in refl))
 
 miss-two : (w : Bytes) (k p : ℕ) → miss w 2 k p ≡ is (pointer w k (above 1 p % 256)) 0 + is (dataBlock w 2 k p) 0
 miss-two w k p =
     at-or-off (pointer w k (above 1 p % 256)) 0
     (λ e. rw (miss-hole 1 k p w e, data-hole 1 k p w e, is-yes (pointer w k (above 1 p % 256)) 0 e) (omega (arith, is-self 0)))
     (λ d.
-      let c = pointer w k (above 1 p % 256) in
-      rw (miss-full 1 k p w d, data-at 1 k p c w refl d, is-no c 0 d, miss-one w c p) (omega arith))
+    let c = pointer w k (above 1 p % 256) in
+    rw (miss-full 1 k p w d, data-at 1 k p c w refl d, is-no c 0 d, miss-one w c p) (omega arith))
 
 -- one file block in hand, and the rest as it was
 module _ (w w′ : Bytes) (g k e p c : ℕ) (path : (r : ℕ) → r < e → 0 ≡ above g r) (pe : p + suc c ≤ e)
@@ -253,10 +253,10 @@ module _ (w w′ : Bytes) (g k e p c : ℕ) (path : (r : ℕ) → r < e → 0 �
         arith,
         sum-eq (λ r. is (dataBlock w′ g k r) 0) (λ r. is (dataBlock w g k r) 0) (run (suc p) c)
             (λ r m.
-              let i = run-in c (suc p) r m in
-              let l : r < e = omega (arith, i .1) in
-              let d : r ≡ p → ⊥ = λ t. omega (arith, i .0) in
-              ap (λ b. is b 0) (same-data w g 0 k w′ g 0 k r (λ b. same (spot r b) (spot-aside r b p d)) (path r l) (path r l))),
+            let i = run-in c (suc p) r m in
+            let l : r < e = omega (arith, i .1) in
+            let d : r ≡ p → ⊥ = λ t. omega (arith, i .0) in
+            ap (λ b. is b 0) (same-data w g 0 k w′ g 0 k r (λ b. same (spot r b) (spot-aside r b p d)) (path r l) (path r l))),
       ))
 
 run-first : (f : ℕ → ℕ) (a m : ℕ) → sum f (run a (suc m)) ≡ f a + sum f (run (suc a) m)
@@ -270,21 +270,21 @@ holes-step w w′ k p c pe same d =
     let m : ℕ = (p + c) / 256 - p / 256 in
     let e : (p + suc c - 1) / 256 + 1 - p / 256 ≡ suc m = omega arith in
     let rest : sum (λ i. is (pointer w′ k i) 0) (run (suc (p / 256)) m) ≡ sum (λ i. is (pointer w k i) 0) (run (suc (p / 256)) m) =
-      sum-eq _ _ (run (suc (p / 256)) m) (λ i o.
-        let r = run-in m (suc (p / 256)) i o in
-        let il : i < 256 = omega (arith, r .1) in
-        omega (arith, same (mark i) (mark-aside i p (λ t. omega (arith, r .0))), mark-is i k w il, mark-is i k w′ il)) in
+    sum-eq _ _ (run (suc (p / 256)) m) (λ i o.
+    let r = run-in m (suc (p / 256)) i o in
+    let il : i < 256 = omega (arith, r .1) in
+    omega (arith, same (mark i) (mark-aside i p (λ t. omega (arith, r .0))), mark-is i k w il, mark-is i k w′ il)) in
     let old = run-first (λ i. is (pointer w k i) 0) (p / 256) m in
     let new = run-first (λ i. is (pointer w′ k i) 0) (p / 256) m in
     rw e
     (at-or-off ((p + 1) / 256) (p / 256)
     (λ f.
-      let e′ : (p + 1 + c - 1) / 256 + 1 - (p + 1) / 256 ≡ suc m = omega arith in
-      rw (e′, f) (omega (arith, old, new, rest, is-no (pointer w′ k (p / 256)) 0 d)))
+    let e′ : (p + 1 + c - 1) / 256 + 1 - (p + 1) / 256 ≡ suc m = omega arith in
+    rw (e′, f) (omega (arith, old, new, rest, is-no (pointer w′ k (p / 256)) 0 d)))
     (λ f.
-      let f′ : (p + 1) / 256 ≡ suc (p / 256) = omega arith in
-      let e′ : (p + 1 + c - 1) / 256 + 1 - (p + 1) / 256 ≡ m = omega arith in
-      rw (e′, f′) (omega (arith, old, rest))))
+    let f′ : (p + 1) / 256 ≡ suc (p / 256) = omega arith in
+    let e′ : (p + 1 + c - 1) / 256 + 1 - (p + 1) / 256 ≡ m = omega arith in
+    rw (e′, f′) (omega (arith, old, rest))))
 
 pub lacks-step : (w w′ : Bytes) (g k e p c : ℕ) → g ≤ 2 → e ≤ 65536 → ((r : ℕ) → r < e → 0 ≡ above g r) → p + suc c ≤ e → (k ≡ 0 → ⊥)
     → ((x : Gauge) → Aside x p → weigh x w′ g 0 k ≡ weigh x w g 0 k) → (dataBlock w′ g k p ≡ 0 → ⊥)
@@ -323,11 +323,11 @@ lacks-none w (suc (suc zero)) k p gl pl d = rw (lacks-tree w k (p + 1) 0) (omega
         unfold holes in
         at-or-off ((p + 1) / 256) (p / 256)
         (λ f.
-          let e : (p + 1 + 0 - 1) / 256 + 1 - (p + 1) / 256 ≡ 1 = omega arith in
-          rw (e, f) (unfold run sum in omega (arith, is-no (pointer w k (p / 256)) 0 there)))
+        let e : (p + 1 + 0 - 1) / 256 + 1 - (p + 1) / 256 ≡ 1 = omega arith in
+        rw (e, f) (unfold run sum in omega (arith, is-no (pointer w k (p / 256)) 0 there)))
         (λ f.
-          let e : (p + 1 + 0 - 1) / 256 + 1 - (p + 1) / 256 ≡ 0 = omega arith in
-          rw e (unfold run sum in refl))
+        let e : (p + 1 + 0 - 1) / 256 + 1 - (p + 1) / 256 ≡ 0 = omega arith in
+        rw e (unfold run sum in refl))
 lacks-none w (suc (suc (suc g))) k p gl pl d = absurd (omega arith)
 
 -- The need, counted before the new keys are taken.
@@ -351,19 +351,19 @@ unfolding lacksBlock
 gap-need v h k w g l hl keyed r t =
     by-lt r (256 ^ h)
     (λ m. rw (lt-ltb r (256 ^ h) m, lacksBlock)
-      (ap (λ b. is b 0) (same-data v h 0 k w g 0 l r (λ b. keyed (spot r b) (λ m c _. refl)) (above-low h r hl m) t)))
+    (ap (λ b. is b 0) (same-data v h 0 k w g 0 l r (λ b. keyed (spot r b) (λ m c _. refl)) (above-low h r hl m) t)))
     (λ m. rw (le-ltb r (256 ^ h) m, lacksBlock)
-      (is-yes (dataBlock w g l r) 0 (by-zero (dataBlock w g l r) (λ z. z) (λ y.
-        let b = dataBlock w g l r in
-        let d : b ≡ 0 → ⊥ = λ z. omega arith in
-        absurd
-        (omega (
-          arith,
-          spot-is r b w g 0 l d t,
-          is-self b,
-          keyed (spot r b) (λ m c _. refl),
-          spot-off r b v h 0 k (above-high h r hl m),
-        ))))))
+    (is-yes (dataBlock w g l r) 0 (by-zero (dataBlock w g l r) (λ z. z) (λ y.
+    let b = dataBlock w g l r in
+    let d : b ≡ 0 → ⊥ = λ z. omega arith in
+    absurd
+    (omega (
+      arith,
+      spot-is r b w g 0 l d t,
+      is-self b,
+      keyed (spot r b) (λ m c _. refl),
+      spot-off r b v h 0 k (above-high h r hl m),
+    ))))))
 
 mark-key : (h i : ℕ) → (h ≡ 0 → i ≡ 0 → ⊥) → (m b : ℕ) → h ≤ m → mark i (suc m) 0 b ≡ 0
 mark-key h i d zero b l = is-no i 0 (d (omega arith))
@@ -401,17 +401,17 @@ pub need-lacks : (v : Bytes) (h k : ℕ) (w : Bytes) (g l e p c : ℕ) → h ≤
 unfolding need
 need-lacks v h k w g l e p c hl some keyed el path pe cl =
     let blocks : gaps w g l p c ≡ sum (lacksBlock v h k) (run p c) =
-      unfold gaps in
-      sum-eq _ _ (run p c) (λ r m. let i = run-in c p r m in gap-need v h k w g l hl keyed r (path r (omega (arith, i .1)))) in
+    unfold gaps in
+    sum-eq _ _ (run p c) (λ r m. let i = run-in c p r m in gap-need v h k w g l hl keyed r (path r (omega (arith, i .1)))) in
     at-or-off g 2
     (λ t. rw t
-      (let more : Keyed v h k w 2 l = rw t at keyed in
-      let indexes : holes w l p c ≡ sum (lacksIndex v h k) (run (p / 256) ((p + c - 1) / 256 + 1 - p / 256)) =
-        unfold holes in
-        sum-eq _ _ (run (p / 256) ((p + c - 1) / 256 + 1 - p / 256)) (λ i m.
-          let r = run-in ((p + c - 1) / 256 + 1 - p / 256) (p / 256) i m in
-          index-need v h k w l hl some more i (omega (arith, r .1))) in
-      rw (lacks-tree w l p c) (omega (arith, indexes, rw t at blocks))))
+    (let more : Keyed v h k w 2 l = rw t at keyed in
+    let indexes : holes w l p c ≡ sum (lacksIndex v h k) (run (p / 256) ((p + c - 1) / 256 + 1 - p / 256)) =
+    unfold holes in
+    sum-eq _ _ (run (p / 256) ((p + c - 1) / 256 + 1 - p / 256)) (λ i m.
+    let r = run-in ((p + c - 1) / 256 + 1 - p / 256) (p / 256) i m in
+    index-need v h k w l hl some more i (omega (arith, r .1))) in
+    rw (lacks-tree w l p c) (omega (arith, indexes, rw t at blocks))))
     (λ t. rw (lacks-low w g l p c t, ne-eqb g 2 t, need) (omega (arith, blocks)))
 
 -- what one file block misses is among it

@@ -101,8 +101,8 @@ module _ (n e h k pos size : ℕ) (buffer : Bytes) (octets : Octets buffer) (hl 
       let y = laid (backed mapPlace n w h k p) h k p pos buffer size in
       let B : Still n (backed mapPlace n w h k p) h 0 k y = laid-still G p pos size buffer octets (C .there) in
       let less =
-        lacks-step w y h k e p c hl el path pe (fit-some F k (has-key w h 0 k))
-        (λ g o. B .weights g ∙ backed-aside g n e h 0 k p w o (path p pl) pl F) (λ z. C .there (sym (still-data B p (path p pl)) ∙ z)) in
+      lacks-step w y h k e p c hl el path pe (fit-some F k (has-key w h 0 k))
+      (λ g o. B .weights g ∙ backed-aside g n e h 0 k p w o (path p pl) pl F) (λ z. C .there (sym (still-data B p (path p pl)) ∙ z)) in
       record { work = A; there = C .there; still = B; more = omega (arith, less, C .more, B .weights (each (λ _. 1))) }
 
   left : {p c : ℕ} {w x y : Bytes} → Fit n w h 0 k → lacks w h k p (suc c) ≤ room mapPlace w n → Advances n e w h k p c x y
@@ -135,7 +135,7 @@ module _ (n e h k pos size : ℕ) (buffer : Bytes) (octets : Octets buffer) (hl 
         full = λ r a b z. at-or-off r p
             (λ t.
             let there : dataBlock (laid (backed mapPlace n w h k p) h k p pos buffer size) h k p ≡ 0 → ⊥ =
-              λ y. A .there (sym (still-data (A .still) p at-p) ∙ y) in
+            λ y. A .there (sym (still-data (A .still) p at-p) ∙ y) in
             there (sym (grown-data _ h 0 k _ h 0 k p (D .grows) at-p at-p there) ∙ rw t at z))
             (λ t. D .full r (omega arith) (omega arith) z);
         more = rw s (D .more ∙ A .more);
