@@ -6,3 +6,4 @@ pub mod RefusalLaws
 pub mod Computing
 pub mod Cases
 pub mod Traps
+pub mod Laws
