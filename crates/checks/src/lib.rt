@@ -355,9 +355,9 @@ fn gather_entries(img: &[u8], n: usize, key: usize, used: usize, list: &mut [u32
     gather_in_blocks(img, n, next_of(img, key), used - 1, list, count)
 }
 
-// No two active entries of a directory of `used` blocks have one name. The last three are scratch.
+// No two active entries of a directory of `used` blocks have one name: they are put in order. The last three are scratch.
 // Each with each is the last resort: the order is right, so that it is never reached.
-pub fn unlike(
+fn unlike_by_order(
     img: &[u8],
     n: usize,
     key: usize,
@@ -381,6 +381,87 @@ pub fn unlike(
     }
     if verdict == 1 {
         return false;
+    }
+    each_with_each(img, n, key, used)
+}
+
+// The same in scratch for fewer than 1024 entries.
+fn unlike_within_1024(
+    img: &[u8],
+    n: usize,
+    key: usize,
+    used: usize,
+    list: &mut [u32; 1024],
+    x: &mut [u32; 1024],
+    y: &mut [u32; 1024],
+) -> bool
+    requires { ⌜ Readable n (now img) × Inside n (chain (view (now img)) key used) ⌝ }
+    requires { ⌜ active (view (now img)) (drop 1 (slots (chain (view (now img)) key used))) < 1024 ⌝ }
+    ensures { λ r. ⌜ r ≡ eqb (twins (view (now (img .entry))) (drop 1 (slots (chain (view (now (img .entry))) key used)))) 0 ⌝ }
+{
+    unlike_by_order(img, n, key, used, list, x, y)
+}
+
+// The same, with that scratch of its own: 12 KB of the stack.
+fn unlike_below_1024(img: &[u8], n: usize, key: usize, used: usize) -> bool
+    requires { ⌜ Readable n (now img) × Inside n (chain (view (now img)) key used) ⌝ }
+    requires { ⌜ active (view (now img)) (drop 1 (slots (chain (view (now img)) key used))) < 1024 ⌝ }
+    ensures { λ r. ⌜ r ≡ eqb (twins (view (now (img .entry))) (drop 1 (slots (chain (view (now (img .entry))) key used)))) 0 ⌝ }
+{
+    let mut list = [0u32; 1024];
+    let mut x = [0u32; 1024];
+    let mut y = [0u32; 1024];
+    unlike_within_1024(img, n, key, used, &mut list, &mut x, &mut y)
+}
+
+// The same in scratch for fewer than 65536 entries.
+fn unlike_within_65536(
+    img: &[u8],
+    n: usize,
+    key: usize,
+    used: usize,
+    list: &mut [u32; 65536],
+    x: &mut [u32; 65536],
+    y: &mut [u32; 65536],
+) -> bool
+    requires { ⌜ Readable n (now img) × Inside n (chain (view (now img)) key used) ⌝ }
+    requires { ⌜ active (view (now img)) (drop 1 (slots (chain (view (now img)) key used))) < 65536 ⌝ }
+    ensures { λ r. ⌜ r ≡ eqb (twins (view (now (img .entry))) (drop 1 (slots (chain (view (now (img .entry))) key used)))) 0 ⌝ }
+{
+    unlike_by_order(img, n, key, used, list, x, y)
+}
+
+// The same, with that scratch of its own: 768 KB of the stack.
+fn unlike_below_65536(img: &[u8], n: usize, key: usize, used: usize) -> bool
+    requires { ⌜ Readable n (now img) × Inside n (chain (view (now img)) key used) ⌝ }
+    requires { ⌜ active (view (now img)) (drop 1 (slots (chain (view (now img)) key used))) < 65536 ⌝ }
+    ensures { λ r. ⌜ r ≡ eqb (twins (view (now (img .entry))) (drop 1 (slots (chain (view (now (img .entry))) key used)))) 0 ⌝ }
+{
+    let mut list = [0u32; 65536];
+    let mut x = [0u32; 65536];
+    let mut y = [0u32; 65536];
+    unlike_within_65536(img, n, key, used, &mut list, &mut x, &mut y)
+}
+
+// No two active entries of a directory of `used` blocks have one name. Few are compared each with each, more are put in order.
+// The first return and the last are never met where `used` blocks were claimed, and the header's count, a word, was compared before.
+pub fn unlike(img: &[u8], n: usize, key: usize, used: usize) -> bool
+    requires { ⌜ Readable n (now img) ⌝ }
+    requires { ⌜ Inside n (chain (view (now img)) key used) ⌝ }
+    ensures { λ r. ⌜ r ≡ eqb (twins (view (now (img .entry))) (drop 1 (slots (chain (view (now (img .entry))) key used)))) 0 ⌝ }
+{
+    if 65535 < used {
+        return each_with_each(img, n, key, used);
+    }
+    let count = count_active(img, n, key, used);
+    if count < 32 {
+        return each_with_each(img, n, key, used);
+    }
+    if count < 1024 {
+        return unlike_below_1024(img, n, key, used);
+    }
+    if count < 65536 {
+        return unlike_below_65536(img, n, key, used);
     }
     each_with_each(img, n, key, used)
 }

@@ -1,4 +1,4 @@
--- `checks::unlike` meets its contract. The verdict on the gathered names, and each with each where there is none. Assumes nothing.
+-- `checks::unlike_by_order` meets its contract. The verdict on the gathered names, and each with each where there is none. Assumes nothing.
 use mathlib.Core.Path.{_≡_, sym, ap, _∙_}
 use Prim.Native.Nat.{_-_}
 use native.Mathlib.Omega.{arith}
@@ -12,8 +12,8 @@ use Rattle.order.specs.Order.{noTwins}
 use Rattle.checks.proofs.Laws.{no-slots}
 use Rattle.checks.proofs.Gathered.{twins-actives, entries-stored}
 use borrow.Author.Needs.{needs}
-use Rattle.checks.proofs.unlike.Statement.{statement}
-use Rattle.checks.proofs.unlike.Tie as tie
+use Rattle.checks.proofs.unlike_by_order.Statement.{statement}
+use Rattle.checks.proofs.unlike_by_order.Tie as tie
 
 returns : tie.Need-returns
 unfolding twins
@@ -96,8 +96,8 @@ same-length-9 c = search needs
 returns-4 : tie.Need-returns-4
 returns-4 c = search needs
 
-pub unlike-spec : {M : Type 1} → statement M
-unlike-spec =
+pub unlike-by-order-spec : {M : Type 1} → statement M
+unlike-by-order-spec =
     tie.close
     (tie.spec
     returns
