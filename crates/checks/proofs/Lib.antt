@@ -1,2 +1,3 @@
 -- The laws that the proofs of this crate share.
 pub mod Laws
+pub mod Gathered

@@ -5,7 +5,8 @@ use mathlib.Core.Path.{_≡_}
 use mathlib.Core.List.{List, [], _∷_, _++_}
 use lib.ListN.{length}
 use Rattle.model.specs.Bytes.{Bytes, view, run}
-use Rattle.model.specs.Directory.{volumeBlock, headerKind, next, chain, slots}
+use mathlib.Core.Bool.{true, false}
+use Rattle.model.specs.Directory.{at, sort, isActive, volumeBlock, headerKind, next, chain, slots}
 
 -- every block lies on a volume of n blocks
 unfoldable pub Inside : ℕ → List ℕ → Type 0
@@ -19,3 +20,8 @@ Readable n img = (length img ≡ n * 512) × (n ≤ 65535) × (headerKind (view 
 -- the slots from place s on in block b, and those of the blocks after b, of which there are so many
 abbrev pub ahead : Bytes → ℕ → ℕ → ℕ → List ℕ
 ahead v s b after = run s (b * 13 + 13 - s) ++ slots (chain v (next v b) after)
+
+-- the addresses of the active ones among slots
+unfoldable pub actives : Bytes → List ℕ → List ℕ
+actives v [] = []
+actives v (s ∷ ss) = elim (isActive (sort v s)) [ true ↦ at s ∷ actives v ss | false ↦ actives v ss ]

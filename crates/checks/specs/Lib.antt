@@ -1,2 +1,2 @@
--- The definitions of checks: blocks that lie on the volume, an image that can be read by places, the slots ahead of a place.
+-- The definitions of checks: what callers have seen before, the slots ahead of a place, and the addresses of active slots.
 pub mod Inside

@@ -3,12 +3,13 @@
 ghost use mathlib.Core.Path.{_≡_};
 ghost use Prim.Native.Nat.{_+_, _-_, _*_, _≤_, _<_};
 ghost use lib.Dec.{eqb};
-ghost use lib.ListN.{length, drop};
+ghost use mathlib.Core.List.{_++_};
+ghost use lib.ListN.{length, take, drop};
 ghost use Rattle.model.specs.Bytes.{view, run, _and_};
 ghost use Rattle.model.specs.Names.{capitalName, alike};
 ghost use Rattle.model.specs.Directory.{at, blockOf, slotOf, next, headerKind, headerSlotSize, headerSlots, parentBlock, parentSlot, parentSlotSize, sort, isActive, active, chain, slots};
 ghost use Rattle.model.specs.Sound.{prodos, volumeFaults, headerFaults, twins, twinsOf};
-ghost use Rattle.checks.specs.Inside.{Inside, Readable, ahead};
+ghost use Rattle.checks.specs.Inside.{Inside, Readable, ahead, actives};
 
 const BLOCK: usize = 512;
 
@@ -273,8 +274,8 @@ fn unlike_in_blocks(img: &[u8], n: usize, first: usize, blocks: usize) -> bool
     true
 }
 
-// No two active entries of a directory of `used` blocks have one name.
-pub fn unlike(img: &[u8], n: usize, key: usize, used: usize) -> bool
+// No two active entries of a directory of `used` blocks have one name: each is compared with each.
+fn each_with_each(img: &[u8], n: usize, key: usize, used: usize) -> bool
     requires { ⌜ Readable n (now img) ⌝ }
     requires { ⌜ Inside n (chain (view (now img)) key used) ⌝ }
     ensures { λ r. ⌜ r ≡ eqb (twins (view (now (img .entry))) (drop 1 (slots (chain (view (now (img .entry))) key used)))) 0 ⌝ }
@@ -287,4 +288,180 @@ pub fn unlike(img: &[u8], n: usize, key: usize, used: usize) -> bool
     } else {
         false
     }
+}
+
+// Appends the addresses of the active slots from one place up to another to the first `at` of a list.
+// Each address is stored, and counted where the slot is active: so the list has one place more than it needs.
+fn gather_between(
+    img: &[u8],
+    n: usize,
+    start: usize,
+    end: usize,
+    list: &mut [u32],
+    at: usize,
+) -> usize
+    requires { ⌜ Readable n (now img) × (start ≤ end) × (end ≤ n * 13) ⌝ }
+    requires { ⌜ at + active (view (now img)) (run start (end - start)) < length (now list) ⌝ }
+    ensures { λ r. ⌜ r ≡ at + active (view (now (img .entry))) (run start (end - start)) ⌝ }
+    ensures { λ r. ⌜ take r (now (list .exit)) ≡ take at (now (list .entry)) ++ actives (view (now (img .entry))) (run start (end - start)) ⌝ }
+{
+    let mut count = at;
+    let mut place = start;
+    while place < end {
+        list[count] = address(place) as u32;
+        if is_active(img, n, place) {
+            count += 1;
+        }
+        place += 1;
+    }
+    count
+}
+
+// The same for the slots of a chain of blocks.
+fn gather_in_blocks(
+    img: &[u8],
+    n: usize,
+    first: usize,
+    blocks: usize,
+    list: &mut [u32],
+    at: usize,
+) -> usize
+    requires { ⌜ Readable n (now img) × Inside n (chain (view (now img)) first blocks) ⌝ }
+    requires { ⌜ at + active (view (now img)) (slots (chain (view (now img)) first blocks)) < length (now list) ⌝ }
+    ensures { λ r. ⌜ r ≡ at + active (view (now (img .entry))) (slots (chain (view (now (img .entry))) first blocks)) ⌝ }
+    ensures { λ r. ⌜ take r (now (list .exit)) ≡ take at (now (list .entry)) ++ actives (view (now (img .entry))) (slots (chain (view (now (img .entry))) first blocks)) ⌝ }
+{
+    let mut count = at;
+    let mut block = first;
+    let mut left = blocks;
+    while 0 < left {
+        let start = block * SLOTS;
+        count = gather_between(img, n, start, start + SLOTS, list, count);
+        block = next_of(img, block);
+        left -= 1;
+    }
+    count
+}
+
+// The addresses of a directory's active entries, from the start of a list on.
+fn gather_entries(img: &[u8], n: usize, key: usize, used: usize, list: &mut [u32]) -> usize
+    requires { ⌜ Readable n (now img) × Inside n (chain (view (now img)) key used) × (0 < used) ⌝ }
+    requires { ⌜ active (view (now img)) (drop 1 (slots (chain (view (now img)) key used))) < length (now list) ⌝ }
+    ensures { λ r. ⌜ r ≡ active (view (now (img .entry))) (drop 1 (slots (chain (view (now (img .entry))) key used))) ⌝ }
+    ensures { λ r. ⌜ take r (now (list .exit)) ≡ actives (view (now (img .entry))) (drop 1 (slots (chain (view (now (img .entry))) key used))) ⌝ }
+{
+    let start = key * SLOTS;
+    let count = gather_between(img, n, start + 1, start + SLOTS, list, 0);
+    gather_in_blocks(img, n, next_of(img, key), used - 1, list, count)
+}
+
+// No two active entries of a directory of `used` blocks have one name: they are put in order. The last three are scratch.
+// Each with each is the last resort: the order is right, so that it is never reached.
+fn unlike_by_order(
+    img: &[u8],
+    n: usize,
+    key: usize,
+    used: usize,
+    list: &mut [u32],
+    x: &mut [u32],
+    y: &mut [u32],
+) -> bool
+    requires { ⌜ Readable n (now img) × Inside n (chain (view (now img)) key used) ⌝ }
+    requires { ⌜ active (view (now img)) (drop 1 (slots (chain (view (now img)) key used))) < length (now list) ⌝ }
+    requires { ⌜ (length (now list) ≤ length (now x)) × (length (now list) ≤ length (now y)) ⌝ }
+    ensures { λ r. ⌜ r ≡ eqb (twins (view (now (img .entry))) (drop 1 (slots (chain (view (now (img .entry))) key used)))) 0 ⌝ }
+{
+    if used == 0 {
+        return true;
+    }
+    let count = gather_entries(img, n, key, used, list);
+    let verdict = order::verdict(img, &list[0..count], x, y);
+    if verdict == 0 {
+        return true;
+    }
+    if verdict == 1 {
+        return false;
+    }
+    each_with_each(img, n, key, used)
+}
+
+// The same in scratch for fewer than 1024 entries.
+fn unlike_within_1024(
+    img: &[u8],
+    n: usize,
+    key: usize,
+    used: usize,
+    list: &mut [u32; 1024],
+    x: &mut [u32; 1024],
+    y: &mut [u32; 1024],
+) -> bool
+    requires { ⌜ Readable n (now img) × Inside n (chain (view (now img)) key used) ⌝ }
+    requires { ⌜ active (view (now img)) (drop 1 (slots (chain (view (now img)) key used))) < 1024 ⌝ }
+    ensures { λ r. ⌜ r ≡ eqb (twins (view (now (img .entry))) (drop 1 (slots (chain (view (now (img .entry))) key used)))) 0 ⌝ }
+{
+    unlike_by_order(img, n, key, used, list, x, y)
+}
+
+// The same, with that scratch of its own: 12 KB of the stack.
+fn unlike_below_1024(img: &[u8], n: usize, key: usize, used: usize) -> bool
+    requires { ⌜ Readable n (now img) × Inside n (chain (view (now img)) key used) ⌝ }
+    requires { ⌜ active (view (now img)) (drop 1 (slots (chain (view (now img)) key used))) < 1024 ⌝ }
+    ensures { λ r. ⌜ r ≡ eqb (twins (view (now (img .entry))) (drop 1 (slots (chain (view (now (img .entry))) key used)))) 0 ⌝ }
+{
+    let mut list = [0u32; 1024];
+    let mut x = [0u32; 1024];
+    let mut y = [0u32; 1024];
+    unlike_within_1024(img, n, key, used, &mut list, &mut x, &mut y)
+}
+
+// The same in scratch for fewer than 65536 entries.
+fn unlike_within_65536(
+    img: &[u8],
+    n: usize,
+    key: usize,
+    used: usize,
+    list: &mut [u32; 65536],
+    x: &mut [u32; 65536],
+    y: &mut [u32; 65536],
+) -> bool
+    requires { ⌜ Readable n (now img) × Inside n (chain (view (now img)) key used) ⌝ }
+    requires { ⌜ active (view (now img)) (drop 1 (slots (chain (view (now img)) key used))) < 65536 ⌝ }
+    ensures { λ r. ⌜ r ≡ eqb (twins (view (now (img .entry))) (drop 1 (slots (chain (view (now (img .entry))) key used)))) 0 ⌝ }
+{
+    unlike_by_order(img, n, key, used, list, x, y)
+}
+
+// The same, with that scratch of its own: 768 KB of the stack.
+fn unlike_below_65536(img: &[u8], n: usize, key: usize, used: usize) -> bool
+    requires { ⌜ Readable n (now img) × Inside n (chain (view (now img)) key used) ⌝ }
+    requires { ⌜ active (view (now img)) (drop 1 (slots (chain (view (now img)) key used))) < 65536 ⌝ }
+    ensures { λ r. ⌜ r ≡ eqb (twins (view (now (img .entry))) (drop 1 (slots (chain (view (now (img .entry))) key used)))) 0 ⌝ }
+{
+    let mut list = [0u32; 65536];
+    let mut x = [0u32; 65536];
+    let mut y = [0u32; 65536];
+    unlike_within_65536(img, n, key, used, &mut list, &mut x, &mut y)
+}
+
+// No two active entries of a directory of `used` blocks have one name. Few are compared each with each, more are put in order.
+// The first return and the last are never met where `used` blocks were claimed, and the header's count, a word, was compared before.
+pub fn unlike(img: &[u8], n: usize, key: usize, used: usize) -> bool
+    requires { ⌜ Readable n (now img) ⌝ }
+    requires { ⌜ Inside n (chain (view (now img)) key used) ⌝ }
+    ensures { λ r. ⌜ r ≡ eqb (twins (view (now (img .entry))) (drop 1 (slots (chain (view (now (img .entry))) key used)))) 0 ⌝ }
+{
+    if 65535 < used {
+        return each_with_each(img, n, key, used);
+    }
+    let count = count_active(img, n, key, used);
+    if count < 32 {
+        return each_with_each(img, n, key, used);
+    }
+    if count < 1024 {
+        return unlike_below_1024(img, n, key, used);
+    }
+    if count < 65536 {
+        return unlike_below_65536(img, n, key, used);
+    }
+    each_with_each(img, n, key, used)
 }

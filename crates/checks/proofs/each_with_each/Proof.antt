@@ -1,4 +1,4 @@
--- `checks::unlike` meets its contract. The slots behind the header, and those of the blocks after the first. Assumes nothing.
+-- `checks::each_with_each` meets its contract. The slots behind the header, and those of the blocks after the first. Assumes nothing.
 use mathlib.Core.Path.{sym, ap, _∙_}
 use Prim.Native.Nat.{_-_}
 use native.Mathlib.Omega.{arith}
@@ -9,8 +9,8 @@ use lib.ListN.{drop}
 use Rattle.model.specs.Sound.{twins}
 use Rattle.checks.proofs.Laws.{inside-chain, entries-chain, no-slots}
 use borrow.Author.Needs.{needs}
-use Rattle.checks.proofs.unlike.Statement.{statement}
-use Rattle.checks.proofs.unlike.Tie as tie
+use Rattle.checks.proofs.each_with_each.Statement.{statement}
+use Rattle.checks.proofs.each_with_each.Tie as tie
 
 returns : tie.Need-returns
 unfolding twins
@@ -73,8 +73,8 @@ returns-3 c =
     let all = ap (λ s. eqb (twins v s) 0) (entries-chain v (a .key) (a .used) (omega arith)) ∙ c .before .unlike-from .ensures in
     sym (rw (c .if2 .left) at all)
 
-pub unlike-spec : {M : Type 1} → statement M
-unlike-spec =
+pub each-with-each-spec : {M : Type 1} → statement M
+each-with-each-spec =
     tie.close
     (tie.spec
     returns

@@ -1,0 +1,2 @@
+-- The laws that the proofs of this crate and its callers share.
+pub mod Laws
