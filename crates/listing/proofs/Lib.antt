@@ -1,0 +1,3 @@
+-- The laws of listing.
+pub mod InkLaws
+pub mod TextLaws
