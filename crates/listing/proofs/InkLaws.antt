@@ -34,12 +34,12 @@ pub byte-as : {x y : ℕ} {s t : Sheet} → x ≡ y → Prints (x ∷ []) s t �
 byte-as e p = prints-as (ap (λ z. z ∷ []) e) p
 
 -- In a loop: what is left to emit, once its first part is emitted, and at the end.
-pub rest-step : {xs : List ℕ} {s t : Sheet} (ys zs : List ℕ) (w : Sheet) → zs ≡ xs ++ ys → Prints xs s t → emit zs s ≡ w → emit ys t ≡ w
-rest-step {xs} {s} ys zs w e p h = ap (emit ys) (p .same) ∙ sym (emit-append xs ys s) ∙ ap (λ l. emit l s) (sym e) ∙ h
+pub emit-rest : {xs : List ℕ} {s t : Sheet} (ys zs : List ℕ) (w : Sheet) → zs ≡ xs ++ ys → Prints xs s t → emit zs s ≡ w → emit ys t ≡ w
+emit-rest {xs} {s} ys zs w e p h = ap (emit ys) (p .same) ∙ sym (emit-append xs ys s) ∙ ap (λ l. emit l s) (sym e) ∙ h
 
-pub rest-done : (zs all : List ℕ) (s s₀ : Sheet) → zs ≡ [] → emit zs s ≡ emit all s₀ → Prints all s₀ s
+pub emit-done : (zs all : List ℕ) (s s₀ : Sheet) → zs ≡ [] → emit zs s ≡ emit all s₀ → Prints all s₀ s
 unfolding emit
-rest-done zs all s s₀ e h = record { same = ap (λ l. emit l s) (sym e) ∙ h }
+emit-done zs all s s₀ e h = record { same = ap (λ l. emit l s) (sym e) ∙ h }
 
 -- One byte: skipped, laid on the page, or past its end.
 module _ (k a x : ℕ) (page : List ℕ) where
@@ -143,3 +143,25 @@ shows all offset old new r p =
       size = ap (λ t. t .size) (p .same) ∙ l .size;
       bytes = ap (λ t. t .bytes) (p .same) ∙ l .bytes ∙ ap (λ j. paste (view old) 0 j (from (view all) offset)) (omega arith);
     }
+
+-- emitting keeps the page's size
+inked-size : (x : ℕ) (s : Sheet) → inked x s .size ≡ s .size
+unfolding inked
+inked-size x s = go (ltb 0 (s .skip)) (ltb (s .at) (s .size))
+  where
+    go : (b c : Bool)
+        → (elim b as (λ _. Sheet) [
+            | true ↦ record { skip = s .skip - 1; at = s .at; size = s .size; bytes = s .bytes }
+            | false ↦ elim c as (λ _. Sheet) [ true ↦ record { skip = s .skip; at = s .at + 1; size = s .size; bytes = put (s .bytes) (s .at) x } | false ↦ s ]
+          ]) .size ≡ s .size
+    go true c = refl
+    go false true = refl
+    go false false = refl
+
+emit-size : (xs : List ℕ) (s : Sheet) → emit xs s .size ≡ s .size
+unfolding emit
+emit-size [] s = refl
+emit-size (x ∷ xs) s = emit-size xs (inked x s) ∙ inked-size x s
+
+pub same-size : {xs : List ℕ} {s t : Sheet} → Prints xs s t → t .size ≡ s .size
+same-size {xs} {s} p = ap (λ t. t .size) (p .same) ∙ emit-size xs s

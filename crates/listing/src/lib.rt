@@ -6,10 +6,28 @@ ghost use mathlib.Core.List.{[], _∷_, _++_};
 ghost use Prim.Native.Nat.{_+_, _-_, _*_, _/_, _%_, _≤_, _<_};
 ghost use lib.ListN.{length};
 ghost use Rattle.model.specs.Bytes.{view};
+ghost use Rattle.model.specs.Directory.{at};
 ghost use Rattle.model.specs.Catalog.{decimalBefore, decimal, hexDigit, hexByte, text, space′, newline, firstLine, listing, refusedLine, tooLargeLine};
+ghost use Rattle.model.specs.Sound.{sound};
+ghost use Rattle.directory.specs.Search.{Each, slotsFrom, listed};
 ghost use Rattle.listing.specs.Ink.{sheet, Prints, Shows};
+ghost use Rattle.listing.specs.Walked.{lineOf, walked, Extended, blocks, Whole, Listed, Chained};
+
+const BLOCK: usize = 512;
+
+const SLOT_SIZE: usize = 39;
+
+const SLOTS: usize = 13;
+
+const VOLUME_HEADER: usize = 1028;
+
+const MAP_FIELD: usize = 1063;
 
 const SPACE: u8 = 32;
+
+const NEWLINE: u8 = 10;
+
+const SLASH: u8 = 47;
 
 // Bytes of the text that are still to be skipped, and bytes of the page that are written.
 pub struct Ink {
@@ -88,5 +106,96 @@ fn emit_hex_byte(page: &mut [u8], ink: Ink, x: u8) -> Ink
 {
     let high = emit_byte(page, ink, hex_digit(x / 16));
     emit_byte(page, high, hex_digit(x % 16))
+}
+
+// The line of an entry whose path is the first `len` bytes of `path`.
+fn emit_line(page: &mut [u8], ink: Ink, slot: &[u8], path: &[u8], len: usize) -> Ink
+    requires { ⌜ (length (now slot) ≡ 39) × (len ≤ length (now path)) ⌝ }
+    ensures { λ r. ⌜ Prints (lineOf (view (now (slot .entry))) (text (view (now (path .entry))) 0 len)) (sheet ink (now (page .entry))) (sheet r (now (page .exit))) ⌝ }
+{
+    let kind = emit_byte(page, ink, hex_digit(slot[0] / 16));
+    let gap = emit_byte(page, kind, SPACE);
+    let ftype = emit_hex_byte(page, gap, slot[0x10]);
+    let used = emit_decimal(page, ftype, store::get_word(slot, 0x13));
+    let eof = emit_decimal(page, used, store::get_long(slot, 0x15));
+    let gap = emit_byte(page, eof, SPACE);
+    let name = emit_run(page, gap, path, 0, len);
+    emit_byte(page, name, NEWLINE)
+}
+
+// Puts a slash and the name that is stored at an address behind the first `len` bytes of a path; its new length.
+fn extend(path: &mut [u8], len: usize, img: &[u8], at: usize) -> usize
+    requires { ⌜ (at + 16 ≤ length (now img)) × (len + 16 ≤ length (now path)) ⌝ }
+    ensures { λ r. ⌜ Extended (view (now (path .entry))) len (view (now (img .entry))) at (view (now (path .exit))) r ⌝ }
+{
+    let size = (img[at] % 16) as usize;
+    store::put_byte(path, len, SLASH);
+    store::copy_run(path, len + 1, img, at + 1, size);
+    len + 1 + size
+}
+
+// Where a slot stands, slots being counted from block 0 on.
+fn address_of(slot: usize) -> usize
+    requires { ⌜ slot / 13 < 65536 ⌝ }
+    ensures { λ r. ⌜ r ≡ at slot ⌝ }
+{
+    slot / SLOTS * BLOCK + 4 + SLOT_SIZE * (slot % SLOTS)
+}
+
+// The line of a slot's entry, and what is below it.
+fn list_entry(img: &[u8], slot: usize, levels: usize, page: &mut [u8], ink: Ink, path: &mut [u8], len: usize) -> Ink
+    requires { ⌜ (Whole (now img)) × (slot / 13 < blocks (now img)) × (len + 16 * (levels + 1) ≤ length (now path)) × Listed (view (now img)) levels slot ⌝ }
+    ensures { λ r. ⌜ Prints (walked (view (now (img .entry))) levels (text (view (now (path .entry))) 0 len) (slot ∷ [])) (sheet ink (now (page .entry))) (sheet r (now (page .exit))) ⌝ }
+    ensures { λ r. ⌜ text (view (now (path .exit))) 0 len ≡ text (view (now (path .entry))) 0 len ⌝ }
+{
+    let at = address_of(slot);
+    let kind = img[at] / 16;
+    if kind == 0 {
+        return ink;
+    }
+    let end = at + SLOT_SIZE;
+    let below = extend(path, len, img, at);
+    let listed = emit_line(page, ink, &img[at..end], path, below);
+    if kind != 13 {
+        return listed;
+    }
+    let key = store::get_word(img, at + 0x11);
+    let used = store::get_word(img, at + 0x13);
+    list_directory(img, key, used, levels - 1, page, listed, path, below)
+}
+
+// The slots of a block, from `first` on.
+fn list_block(img: &[u8], block: usize, first: usize, levels: usize, page: &mut [u8], ink: Ink, path: &mut [u8], len: usize) -> Ink
+    requires { ⌜ (Whole (now img)) × (block < blocks (now img)) × (1 ≤ first) × (len + 16 * (levels + 1) ≤ length (now path)) ⌝ }
+    requires { ⌜ Each (Listed (view (now img)) levels) (slotsFrom block first) ⌝ }
+    ensures { λ r. ⌜ Prints (walked (view (now (img .entry))) levels (text (view (now (path .entry))) 0 len) (slotsFrom block first)) (sheet ink (now (page .entry))) (sheet r (now (page .exit))) ⌝ }
+    ensures { λ r. ⌜ text (view (now (path .exit))) 0 len ≡ text (view (now (path .entry))) 0 len ⌝ }
+{
+    let mut now = ink;
+    let mut slot = first;
+    while slot <= SLOTS {
+        now = list_entry(img, block * SLOTS + slot - 1, levels, page, now, path, len);
+        slot += 1;
+    }
+    now
+}
+
+// The slots of a directory: slot 1 of its key block is the header.
+fn list_directory(img: &[u8], key: usize, used: usize, levels: usize, page: &mut [u8], ink: Ink, path: &mut [u8], len: usize) -> Ink
+    requires { ⌜ (Whole (now img)) × (len + 16 * (levels + 1) ≤ length (now path)) × Chained (blocks (now img)) (view (now img)) levels key used ⌝ }
+    ensures { λ r. ⌜ Prints (walked (view (now (img .entry))) levels (text (view (now (path .entry))) 0 len) (listed (view (now (img .entry))) key used)) (sheet ink (now (page .entry))) (sheet r (now (page .exit))) ⌝ }
+    ensures { λ r. ⌜ text (view (now (path .exit))) 0 len ≡ text (view (now (path .entry))) 0 len ⌝ }
+{
+    let mut now = ink;
+    let mut block = key;
+    let mut left = used;
+    let mut first: usize = 2;
+    while 0 < left {
+        now = list_block(img, block, first, levels, page, now, path, len);
+        block = store::get_word(img, block * BLOCK + 2);
+        left -= 1;
+        first = 1;
+    }
+    now
 }
 

@@ -5,7 +5,7 @@ use lib.ListN.{length}
 use Rattle.model.specs.Bytes.{view}
 use Rattle.model.specs.Catalog.{text}
 use Rattle.listing.specs.Ink.{sheet, emit}
-use Rattle.listing.proofs.InkLaws.{rest-step, rest-done}
+use Rattle.listing.proofs.InkLaws.{emit-rest, emit-done}
 use Rattle.listing.proofs.TextLaws.{text-at, text-next, text-end}
 use borrow.Author.Needs.{needs}
 use Rattle.listing.proofs.emit_run.Statement.{statement}
@@ -59,7 +59,7 @@ loop-again c =
     let l = c .before .before .before .before .before .before .loop in (
       omega arith,
       omega arith,
-      rest-step _ _ _ (text-next (view (a .s .now)) (a .start) (a .count) (l .passed) (omega arith)) (c .before .before .emit-byte .ensures) (l .inv .2),
+      emit-rest _ _ _ (text-next (view (a .s .now)) (a .start) (a .count) (l .passed) (omega arith)) (c .before .before .emit-byte .ensures) (l .inv .2),
     )
 
 -- src/lib.rt:41:1
@@ -71,7 +71,7 @@ returns : tie.Need-returns Inv-loop μ-loop
 returns c =
     let a = c .before .before .before .before .args in
     let l = c .before .loop in
-    rest-done _ _ _ _ (text-end (view (a .s .now)) _ _ (omega arith)) (l .inv .2)
+    emit-done _ _ _ _ (text-end (view (a .s .now)) _ _ (omega arith)) (l .inv .2)
 
 pub emit-run-spec : {M : Type 1} → statement M
 emit-run-spec =
