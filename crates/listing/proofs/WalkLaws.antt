@@ -8,15 +8,17 @@ use lib.Dec.{leb}
 use lib.ListN.{length, take, drop}
 use borrow.Author.Tests.{ne-eqb, leb-false}
 use Rattle.model.specs.Bytes.{Bytes, view, word, long, gather}
-use Rattle.model.specs.Directory.{place, at, volume, inactive, directory, improper, file, sortOf, sort, isActive, field, ftype, key, used, eof, chain, next, slotsBelow, kids}
-use Rattle.model.specs.Walk.{Visit, visit, walk}
+use Rattle.model.specs.Map.{mapBlocks}
+use Rattle.model.specs.Directory.{place, at, volume, mapBlock, inactive, directory, improper, file, sortOf, sort, isActive, field, ftype, key, used, eof, chain, next, slotsBelow, kids}
+use Rattle.model.specs.Walk.{levelMost, Visit, visit, walk}
 use Rattle.model.specs.Sound.{sound}
 use Rattle.model.specs.Names.{slash, nameSize}
-use Rattle.model.specs.Catalog.{space′, newline, decimal, hexDigit, hexByte, text, below, line}
+use Rattle.model.specs.Catalog.{space′, newline, decimal, hexDigit, hexByte, text, below, line, firstLine, listing}
 use Rattle.model.proofs.ByteLaws.{view-read, word-part, long-part}
 use Rattle.claims.proofs.SoundFacts.{sound-facts}
-use Rattle.facts.specs.Reached.{Among, here, later, Met, down, Inside}
+use Rattle.facts.specs.Reached.{Among, here, later, Met, top, down, Inside}
 use Rattle.facts.proofs.BlockLaws.{met-directory}
+use Rattle.facts.proofs.LookupLaws.{volume-directory}
 use Rattle.facts.proofs.SlotLaws.{kid-entry}
 use Rattle.directory.specs.Search.{Each, slotsFrom, listed}
 use Rattle.directory.proofs.SlotLaws.{sort-entry, field-entry, sort-improper}
@@ -261,3 +263,20 @@ module _ (img : List ℕ) (l s a : ℕ) (whole : Whole img) (w : Listed (view im
           → lineOf (view (take k (drop a img))) q ++ walked (view img) (l - 1) q (listed (view img) b u) ≡ walked (view img) l p (s ∷ [])
       directory-text k p q e path =
           node-text img p s a k (w .entry) start e l q (path-at p q path) b u (kind-at 13 h) directory-level (field-at 0x11 2 b first) (field-at 0x13 4 u many)
+
+-- The volume itself.
+pub whole : (n : ℕ) (img : List ℕ) → length img ≡ n * 512 → sound n (view img) ≡ true → Whole img
+whole n img e h = let b : length img / 512 ≡ n = omega arith in record { size = omega arith; safe = rw b h }
+
+pub map-inside : (n m : ℕ) (v : Bytes) → sound n v ≡ true → m ≡ mapBlock v → (n ≤ 65535) × (m * 512 + mapBlocks n * 512 ≤ n * 512)
+unfolding mapBlocks
+map-inside n m v h e = let f = sound-facts n v h in let p = f .placed in (f .most, omega (arith, f .least))
+
+pub volume-chained : (n : ℕ) (img : List ℕ) → length img ≡ n * 512 → sound n (view img) ≡ true → Chained (blocks img) (view img) levelMost 2 4
+unfolding field
+volume-chained n img e h = met-chained (whole n img e h .safe) top (volume-directory (view img))
+
+pub volume-text : (n : ℕ) (f v : Bytes) (p : List ℕ) → p ≡ text f 0 0 ++ (slash ∷ text v 1029 (nameSize v 1028))
+    → firstLine n v ++ walked v levelMost p (listed v 2 4) ≡ listing n v
+unfolding listing walked text at field sort slotsBelow
+volume-text n f v p e = ap (λ q. firstLine n v ++ walked v levelMost q (listed v 2 4)) e

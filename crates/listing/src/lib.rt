@@ -199,3 +199,65 @@ fn list_directory(img: &[u8], key: usize, used: usize, levels: usize, page: &mut
     now
 }
 
+// Name, total, free.
+fn emit_first_line(img: &[u8], n: usize, page: &mut [u8], ink: Ink) -> Ink
+    requires { ⌜ (length (now img) ≡ n * 512) × (sound n (view (now img)) ≡ true) ⌝ }
+    ensures { λ r. ⌜ Prints (firstLine n (view (now (img .entry)))) (sheet ink (now (page .entry))) (sheet r (now (page .exit))) ⌝ }
+{
+    let size = (img[VOLUME_HEADER] % 16) as usize;
+    let name = emit_run(page, ink, img, VOLUME_HEADER + 1, size);
+    let total = emit_decimal(page, name, n);
+    let free = map::free_blocks(img, store::get_word(img, MAP_FIELD), n);
+    let space = emit_decimal(page, total, free);
+    emit_byte(page, space, NEWLINE)
+}
+
+// The whole listing; `path` is room for the longest path.
+fn list_volume(img: &[u8], n: usize, page: &mut [u8], ink: Ink, path: &mut [u8; 528]) -> Ink
+    requires { ⌜ (length (now img) ≡ n * 512) × (sound n (view (now img)) ≡ true) ⌝ }
+    ensures { λ r. ⌜ Prints (listing n (view (now (img .entry)))) (sheet ink (now (page .entry))) (sheet r (now (page .exit))) ⌝ }
+{
+    let first = emit_first_line(img, n, page, ink);
+    let len = extend(path, 0, img, VOLUME_HEADER);
+    list_directory(img, 2, 4, 31, page, first, path, len)
+}
+
+// The page of a sound volume's listing from an offset on: how many bytes it has.
+pub fn page_of_volume(img: &[u8], n: usize, offset: usize, page: &mut [u8]) -> usize
+    requires { ⌜ (length (now img) ≡ n * 512) × (sound n (view (now img)) ≡ true) ⌝ }
+    ensures { λ r. ⌜ Shows (listing n (view (now (img .entry)))) offset (now (page .entry)) r (now (page .exit)) ⌝ }
+{
+    let mut path = [0u8; 528];
+    let start = Ink {
+        skip: offset,
+        at: 0,
+    };
+    let end = list_volume(img, n, page, start, &mut path);
+    end.at
+}
+
+// The page of the line for a refused image.
+pub fn page_of_refusal(number: u8, offset: usize, page: &mut [u8]) -> usize
+    ensures { λ r. ⌜ Shows (refusedLine number) offset (now (page .entry)) r (now (page .exit)) ⌝ }
+{
+    let start = Ink {
+        skip: offset,
+        at: 0,
+    };
+    let word = emit_run(page, start, b"REFUSED ", 0, 8);
+    let digits = emit_hex_byte(page, word, number);
+    let end = emit_byte(page, digits, NEWLINE);
+    end.at
+}
+
+// The page of the line for an image that is too large.
+pub fn page_of_too_large(offset: usize, page: &mut [u8]) -> usize
+    ensures { λ r. ⌜ Shows tooLargeLine offset (now (page .entry)) r (now (page .exit)) ⌝ }
+{
+    let start = Ink {
+        skip: offset,
+        at: 0,
+    };
+    let end = emit_run(page, start, b"TOO LARGE\n", 0, 10);
+    end.at
+}
