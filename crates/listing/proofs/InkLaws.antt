@@ -103,7 +103,7 @@ laid (x ∷ xs) k a n f h = go (ltb 0 k) refl (ltb a n) refl (laid xs)
               r .bytes
               ∙ ap (λ j. paste f a (min (n - a) j) (from (view xs) (k - 1))) e
               ∙ paste-cong f a (min (n - a) (suc (length xs) - k)) (from (view xs) (k - 1)) (from (view (x ∷ xs)) k)
-                (λ i b. let q : k + i ≡ suc (k - 1 + i) = omega arith in ap (view (x ∷ xs)) (sym q));
+              (λ i b. let q : k + i ≡ suc (k - 1 + i) = omega arith in ap (view (x ∷ xs)) (sym q));
         }
 
     put-down : k ≤ 0 → a < n → Laid xs k (a + 1) n (put f a x) (emit xs (page k (a + 1) n (put f a x))) → Laid (x ∷ xs) k a n f (emit xs (page k (a + 1) n (put f a x)))
@@ -151,9 +151,9 @@ inked-size x s = go (ltb 0 (s .skip)) (ltb (s .at) (s .size))
   where
     go : (b c : Bool)
         → (elim b as (λ _. Sheet) [
-            | true ↦ record { skip = s .skip - 1; at = s .at; size = s .size; bytes = s .bytes }
-            | false ↦ elim c as (λ _. Sheet) [ true ↦ record { skip = s .skip; at = s .at + 1; size = s .size; bytes = put (s .bytes) (s .at) x } | false ↦ s ]
-          ]) .size ≡ s .size
+          | true ↦ record { skip = s .skip - 1; at = s .at; size = s .size; bytes = s .bytes }
+          | false ↦ elim c as (λ _. Sheet) [ true ↦ record { skip = s .skip; at = s .at + 1; size = s .size; bytes = put (s .bytes) (s .at) x } | false ↦ s ]
+        ]) .size ≡ s .size
     go true c = refl
     go false true = refl
     go false false = refl

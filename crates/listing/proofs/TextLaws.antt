@@ -31,7 +31,7 @@ decimal-before (suc k) x rest = go (ltb x 10) (decimal-before k (x / 10))
 
     go : (b : Bool) → ((rest : List ℕ) → decimalBefore k (x / 10) rest ≡ decimalBefore k (x / 10) [] ++ rest)
         → elim b as (λ _. List ℕ) [ true ↦ (48 + x) ∷ rest | false ↦ decimalBefore k (x / 10) (d ∷ rest) ]
-          ≡ elim b as (λ _. List ℕ) [ true ↦ (48 + x) ∷ [] | false ↦ decimalBefore k (x / 10) (d ∷ []) ] ++ rest
+        ≡ elim b as (λ _. List ℕ) [ true ↦ (48 + x) ∷ [] | false ↦ decimalBefore k (x / 10) (d ∷ []) ] ++ rest
     go true r = refl
     go false r = r (d ∷ rest) ∙ sym (append-assoc (decimalBefore k (x / 10) []) (d ∷ []) rest) ∙ ap (λ l. l ++ rest) (sym (r (d ∷ [])))
 

@@ -23,7 +23,7 @@ use Rattle.facts.proofs.SlotLaws.{kid-entry}
 use Rattle.directory.specs.Search.{Each, slotsFrom, listed}
 use Rattle.directory.proofs.SlotLaws.{sort-entry, field-entry, sort-improper}
 use Rattle.directory.proofs.SearchLaws.{rest, rest-more, slots-more, each-head, each-tail, each-front, each-back}
-use Rattle.listing.specs.Walked.{lineOf, walked, blocks, Whole, Listed, Chained}
+use Rattle.listing.specs.Walked.{lineOf, walked, blockCount, Whole, Listed, Chained}
 
 -- Lists of lines.
 gather-append : {A B : Type 0} (g : A → List B) (xs ys : List A) → gather g (xs ++ ys) ≡ gather g xs ++ gather g ys
@@ -236,10 +236,10 @@ module _ (img : List ℕ) (l s a : ℕ) (whole : Whole img) (w : Listed (view im
   field-at : (o r x : ℕ) → x ≡ word (view img) (a + o) → x ≡ field (view img) s o r
   field-at o r x e = e ∙ ap (λ b. word (view img) (b + o)) start ∙ sym (field-entry (view img) s (w .entry) o r)
 
-  pub slot-few : s / 13 < blocks img → s / 13 < 65536
-  slot-few h = omega (arith, sound-facts (blocks img) (view img) (whole .safe) .most)
+  pub slot-few : s / 13 < blockCount img → s / 13 < 65536
+  slot-few h = omega (arith, sound-facts (blockCount img) (view img) (whole .safe) .most)
 
-  pub slot-inside : s / 13 < blocks img → a + 39 ≤ length img
+  pub slot-inside : s / 13 < blockCount img → a + 39 ≤ length img
   unfolding at
   slot-inside h = omega (arith, whole .size, start)
 
@@ -252,12 +252,12 @@ module _ (img : List ℕ) (l s a : ℕ) (whole : Whole img) (w : Listed (view im
 
   module _ (h : view img a / 16 ≡ 13) where
     pub directory-level : 1 ≤ l
-    directory-level = listed-level (blocks img) (whole .safe) w (sort-directory (view img) s (w .entry) (kind-at 13 h))
+    directory-level = listed-level (blockCount img) (whole .safe) w (sort-directory (view img) s (w .entry) (kind-at 13 h))
 
     module _ (b u : ℕ) (first : b ≡ word (view img) (a + 0x11)) (many : u ≡ word (view img) (a + 0x13)) where
-      pub directory-chained : Chained (blocks img) (view img) (l - 1) b u
+      pub directory-chained : Chained (blockCount img) (view img) (l - 1) b u
       directory-chained =
-          listed-chained (blocks img) (whole .safe) w (sort-directory (view img) s (w .entry) (kind-at 13 h)) b u (field-at 0x11 2 b first) (field-at 0x13 4 u many)
+          listed-chained (blockCount img) (whole .safe) w (sort-directory (view img) s (w .entry) (kind-at 13 h)) b u (field-at 0x11 2 b first) (field-at 0x13 4 u many)
 
       pub directory-text : (k : ℕ) (p q : List ℕ) → k ≡ 39 → q ≡ p ++ (slash ∷ text (view img) (a + 1) (nameSize (view img) a))
           → lineOf (view (take k (drop a img))) q ++ walked (view img) (l - 1) q (listed (view img) b u) ≡ walked (view img) l p (s ∷ [])
@@ -272,7 +272,7 @@ pub map-inside : (n m : ℕ) (v : Bytes) → sound n v ≡ true → m ≡ mapBlo
 unfolding mapBlocks
 map-inside n m v h e = let f = sound-facts n v h in let p = f .placed in (f .most, omega (arith, f .least))
 
-pub volume-chained : (n : ℕ) (img : List ℕ) → length img ≡ n * 512 → sound n (view img) ≡ true → Chained (blocks img) (view img) levelMost 2 4
+pub volume-chained : (n : ℕ) (img : List ℕ) → length img ≡ n * 512 → sound n (view img) ≡ true → Chained (blockCount img) (view img) levelMost 2 4
 unfolding field
 volume-chained n img e h = met-chained (whole n img e h .safe) top (volume-directory (view img))
 

@@ -31,20 +31,20 @@ pub record Extended (old : Bytes) (k : ℕ) (v : Bytes) (a : ℕ) (new : Bytes) 
   pub reads : text new 0 r ≡ text old 0 k ++ (slash ∷ text v (a + 1) (nameSize v a))
   pub kept : text new 0 k ≡ text old 0 k
 
--- the blocks of an image, and an image that is a sound volume
-abbrev pub blocks : List ℕ → ℕ
-blocks img = length img / 512
+-- how many blocks an image has, and an image that is a sound volume
+abbrev pub blockCount : List ℕ → ℕ
+blockCount img = length img / 512
 
 pub record Whole (img : List ℕ) : Type 0 where
-  pub size : length img ≡ blocks img * 512
-  pub safe : sound (blocks img) (view img) ≡ true
+  pub size : length img ≡ blockCount img * 512
+  pub safe : sound (blockCount img) (view img) ≡ true
 
 -- the walk meets an entry's slot with l levels left below it
 pub record Listed (v : Bytes) (l s : ℕ) : Type 0 where
   pub met : (d : ℕ) × Met v l d s
   pub entry : s ≡ volume → ⊥
 
--- a directory of n blocks' volume whose slots the walk meets, by its key and the length of its chain
+-- a directory whose slots the walk meets, by its key and the length of its chain; the volume has n blocks
 pub record Chained (n : ℕ) (v : Bytes) (l key used : ℕ) : Type 0 where
   pub inside : Each (λ b. b < n) (chain v key used)
   pub entries : Each (Listed v l) (listed v key used)

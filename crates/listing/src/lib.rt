@@ -11,7 +11,7 @@ ghost use Rattle.model.specs.Catalog.{decimalBefore, decimal, hexDigit, hexByte
 ghost use Rattle.model.specs.Sound.{sound};
 ghost use Rattle.directory.specs.Search.{Each, slotsFrom, listed};
 ghost use Rattle.listing.specs.Ink.{sheet, Prints, Shows};
-ghost use Rattle.listing.specs.Walked.{lineOf, walked, Extended, blocks, Whole, Listed, Chained};
+ghost use Rattle.listing.specs.Walked.{lineOf, walked, Extended, blockCount, Whole, Listed, Chained};
 
 const BLOCK: usize = 512;
 
@@ -19,9 +19,23 @@ const SLOT_SIZE: usize = 39;
 
 const SLOTS: usize = 13;
 
+// The kind of a subdirectory's entry.
+const DIRECTORY: u8 = 13;
+
+// The volume directory: its key block, the blocks of its chain, and the levels that can be below it.
+const VOLUME_BLOCK: usize = 2;
+
+const VOLUME_LENGTH: usize = 4;
+
+const LEVEL_MOST: usize = 31;
+
+// Where the volume's header stands, and in it the number of the map's first block.
 const VOLUME_HEADER: usize = 1028;
 
 const MAP_FIELD: usize = 1063;
+
+// The longest path: the volume, a directory on each level and a file, each a slash and 15 bytes.
+const PATH_ROOM: usize = 528;
 
 const SPACE: u8 = 32;
 
@@ -30,11 +44,12 @@ const NEWLINE: u8 = 10;
 const SLASH: u8 = 47;
 
 // Bytes of the text that are still to be skipped, and bytes of the page that are written.
-pub struct Ink {
-    pub skip: usize,
-    pub at: usize,
+struct Ink {
+    skip: usize,
+    at: usize,
 }
 
+// Skips the byte, lays it on the page, or drops it past the page's end.
 fn emit_byte(page: &mut [u8], ink: Ink, byte: u8) -> Ink
     ensures { λ r. ⌜ Prints (byte ∷ []) (sheet ink (now (page .entry))) (sheet r (now (page .exit))) ⌝ }
 {
@@ -142,9 +157,17 @@ fn address_of(slot: usize) -> usize
     slot / SLOTS * BLOCK + 4 + SLOT_SIZE * (slot % SLOTS)
 }
 
-// The line of a slot's entry, and what is below it.
-fn list_entry(img: &[u8], slot: usize, levels: usize, page: &mut [u8], ink: Ink, path: &mut [u8], len: usize) -> Ink
-    requires { ⌜ (Whole (now img)) × (slot / 13 < blocks (now img)) × (len + 16 * (levels + 1) ≤ length (now path)) × Listed (view (now img)) levels slot ⌝ }
+// The line of a slot's entry, and what is below it. The bytes of `path` from `len` on may change.
+fn list_entry(
+    img: &[u8],
+    slot: usize,
+    levels: usize,
+    page: &mut [u8],
+    ink: Ink,
+    path: &mut [u8],
+    len: usize,
+) -> Ink
+    requires { ⌜ (Whole (now img)) × (slot / 13 < blockCount (now img)) × (len + 16 * (levels + 1) ≤ length (now path)) × Listed (view (now img)) levels slot ⌝ }
     ensures { λ r. ⌜ Prints (walked (view (now (img .entry))) levels (text (view (now (path .entry))) 0 len) (slot ∷ [])) (sheet ink (now (page .entry))) (sheet r (now (page .exit))) ⌝ }
     ensures { λ r. ⌜ text (view (now (path .exit))) 0 len ≡ text (view (now (path .entry))) 0 len ⌝ }
 {
@@ -156,7 +179,7 @@ fn list_entry(img: &[u8], slot: usize, levels: usize, page: &mut [u8], ink: Ink,
     let end = at + SLOT_SIZE;
     let below = extend(path, len, img, at);
     let listed = emit_line(page, ink, &img[at..end], path, below);
-    if kind != 13 {
+    if kind != DIRECTORY {
         return listed;
     }
     let key = store::get_word(img, at + 0x11);
@@ -164,9 +187,18 @@ fn list_entry(img: &[u8], slot: usize, levels: usize, page: &mut [u8], ink: Ink,
     list_directory(img, key, used, levels - 1, page, listed, path, below)
 }
 
-// The slots of a block, from `first` on.
-fn list_block(img: &[u8], block: usize, first: usize, levels: usize, page: &mut [u8], ink: Ink, path: &mut [u8], len: usize) -> Ink
-    requires { ⌜ (Whole (now img)) × (block < blocks (now img)) × (1 ≤ first) × (len + 16 * (levels + 1) ≤ length (now path)) ⌝ }
+// The slots of a block, from `first` on, of a directory whose path is the first `len` bytes of `path`.
+fn list_block(
+    img: &[u8],
+    block: usize,
+    first: usize,
+    levels: usize,
+    page: &mut [u8],
+    ink: Ink,
+    path: &mut [u8],
+    len: usize,
+) -> Ink
+    requires { ⌜ (Whole (now img)) × (block < blockCount (now img)) × (1 ≤ first) × (len + 16 * (levels + 1) ≤ length (now path)) ⌝ }
     requires { ⌜ Each (Listed (view (now img)) levels) (slotsFrom block first) ⌝ }
     ensures { λ r. ⌜ Prints (walked (view (now (img .entry))) levels (text (view (now (path .entry))) 0 len) (slotsFrom block first)) (sheet ink (now (page .entry))) (sheet r (now (page .exit))) ⌝ }
     ensures { λ r. ⌜ text (view (now (path .exit))) 0 len ≡ text (view (now (path .entry))) 0 len ⌝ }
@@ -181,8 +213,17 @@ fn list_block(img: &[u8], block: usize, first: usize, levels: usize, page: &mut 
 }
 
 // The slots of a directory: slot 1 of its key block is the header.
-fn list_directory(img: &[u8], key: usize, used: usize, levels: usize, page: &mut [u8], ink: Ink, path: &mut [u8], len: usize) -> Ink
-    requires { ⌜ (Whole (now img)) × (len + 16 * (levels + 1) ≤ length (now path)) × Chained (blocks (now img)) (view (now img)) levels key used ⌝ }
+fn list_directory(
+    img: &[u8],
+    key: usize,
+    used: usize,
+    levels: usize,
+    page: &mut [u8],
+    ink: Ink,
+    path: &mut [u8],
+    len: usize,
+) -> Ink
+    requires { ⌜ (Whole (now img)) × (len + 16 * (levels + 1) ≤ length (now path)) × Chained (blockCount (now img)) (view (now img)) levels key used ⌝ }
     ensures { λ r. ⌜ Prints (walked (view (now (img .entry))) levels (text (view (now (path .entry))) 0 len) (listed (view (now (img .entry))) key used)) (sheet ink (now (page .entry))) (sheet r (now (page .exit))) ⌝ }
     ensures { λ r. ⌜ text (view (now (path .exit))) 0 len ≡ text (view (now (path .entry))) 0 len ⌝ }
 {
@@ -213,13 +254,22 @@ fn emit_first_line(img: &[u8], n: usize, page: &mut [u8], ink: Ink) -> Ink
 }
 
 // The whole listing; `path` is room for the longest path.
-fn list_volume(img: &[u8], n: usize, page: &mut [u8], ink: Ink, path: &mut [u8; 528]) -> Ink
+fn list_volume(img: &[u8], n: usize, page: &mut [u8], ink: Ink, path: &mut [u8; PATH_ROOM]) -> Ink
     requires { ⌜ (length (now img) ≡ n * 512) × (sound n (view (now img)) ≡ true) ⌝ }
     ensures { λ r. ⌜ Prints (listing n (view (now (img .entry)))) (sheet ink (now (page .entry))) (sheet r (now (page .exit))) ⌝ }
 {
     let first = emit_first_line(img, n, page, ink);
     let len = extend(path, 0, img, VOLUME_HEADER);
-    list_directory(img, 2, 4, 31, page, first, path, len)
+    list_directory(
+        img,
+        VOLUME_BLOCK,
+        VOLUME_LENGTH,
+        LEVEL_MOST,
+        page,
+        first,
+        path,
+        len,
+    )
 }
 
 // The page of a sound volume's listing from an offset on: how many bytes it has.
@@ -227,7 +277,7 @@ pub fn page_of_volume(img: &[u8], n: usize, offset: usize, page: &mut [u8]) -> u
     requires { ⌜ (length (now img) ≡ n * 512) × (sound n (view (now img)) ≡ true) ⌝ }
     ensures { λ r. ⌜ Shows (listing n (view (now (img .entry)))) offset (now (page .entry)) r (now (page .exit)) ⌝ }
 {
-    let mut path = [0u8; 528];
+    let mut path = [0u8; PATH_ROOM];
     let start = Ink {
         skip: offset,
         at: 0,

@@ -1,3 +1,4 @@
+-- `listing::emit_number` meets its contract. The places fall with each call. Assumes nothing.
 use Rattle.listing.proofs.InkLaws.{prints-none, prints-as, _then_}
 use Rattle.listing.proofs.TextLaws.{number-none, number-digit, number-more}
 use borrow.Author.Needs.{needs}

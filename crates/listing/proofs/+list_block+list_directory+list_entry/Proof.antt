@@ -9,7 +9,7 @@ use Rattle.model.specs.Catalog.{text}
 use Rattle.directory.specs.Search.{Each, slotsFrom, listed}
 use Rattle.directory.proofs.SearchLaws.{rest, rest-done, slots-more, slots-done, each-head, each-tail}
 use Rattle.listing.specs.Ink.{sheet, emit}
-use Rattle.listing.specs.Walked.{walked, blocks, Listed}
+use Rattle.listing.specs.Walked.{walked, blockCount, Listed}
 use Rattle.listing.proofs.InkLaws.{prints-none, prints-as, emit-rest, emit-done, _then_}
 use Rattle.listing.proofs.TextLaws.{text-start}
 use Rattle.listing.proofs.WalkLaws.{block-text, chain-text, empty-text, Pending, pending, pending-block, pending-slots, pending-next, slot-few, slot-inside, slot-quiet, slot-leaf, directory-level, directory-chained, directory-text}
@@ -115,10 +115,12 @@ list-block-list-entry-requires t c κs =
     let l = c .before .before .before .loop in
     let e : (a .block * 13 + l .slot - 1) / 13 ≡ a .block = omega arith in (
       omega arith,
-      (c .before .before .before .before .before .before .before .pre .1 .0 .0,
-      omega arith,
-      omega arith,
-      each-head (Listed (view (a .img .now)) (a .levels)) (place (a .block) (l .slot)) _ _ (slots-more (a .block) (l .slot) (omega arith) (omega arith)) (l .inv .3)),
+      (
+        c .before .before .before .before .before .before .before .pre .1 .0 .0,
+        omega arith,
+        omega arith,
+        each-head (Listed (view (a .img .now)) (a .levels)) (place (a .block) (l .slot)) _ _ (slots-more (a .block) (l .slot) (omega arith) (omega arith)) (l .inv .3),
+      ),
     )
 
 list-block-add-slot :
@@ -178,7 +180,7 @@ list-directory-Inv-loop img key used levels page₀ path₀ len now₀ block₀ 
     let p = text (view path₀) 0 len in
     (length page ≡ length page₀)
     × (length path ≡ length path₀)
-    × Pending (blocks img) (view img) levels block left first
+    × Pending (blockCount img) (view img) levels block left first
     × (text (view path) 0 len ≡ p)
     × (emit (walked (view img) levels p (rest (view img) block left first)) (sheet now page) ≡ emit (walked (view img) levels p (listed (view img) key used)) (sheet now₀ page₀))
 
@@ -193,8 +195,10 @@ list-directory-list-block-requires t c κs =
     let l = c .before .before .before .loop in
     let more : 0 < l .left = omega arith in (
       omega arith,
-      ((c .before .before .before .before .before .before .before .pre .1 .0, pending-block more (l .inv .2), l .inv .2 .low, omega arith),
-      pending-slots more (l .inv .2)),
+      (
+        (c .before .before .before .before .before .before .before .pre .1 .0, pending-block more (l .inv .2), l .inv .2 .low, omega arith),
+        pending-slots more (l .inv .2),
+      ),
     )
 
 list-directory-mul-get-word : (t : ℕ) → list-directory-lts.Need-mul-get-word (list-directory-calls t) (list-directory-at t) list-directory.Post list-directory-Inv-loop list-directory-μ-loop
@@ -309,9 +313,11 @@ list-entry-list-directory-requires : (t : ℕ) → list-entry-lts.Need-list-dire
 list-entry-list-directory-requires t c κs =
     let level = directory-level (c .before .before .before .before .before .before .before .before .before .before .before .before .before .before .before .before .before .before .before .before .before .args .img .now) (c .before .before .before .before .before .before .before .before .before .before .before .before .before .before .before .before .before .before .before .before .before .args .levels) (c .before .before .before .before .before .before .before .before .before .before .before .before .before .before .before .before .before .before .before .before .before .args .slot) _ (c .before .before .before .before .before .before .before .before .before .before .before .before .before .before .before .before .before .before .before .before .before .pre .1 .0) (c .before .before .before .before .before .before .before .before .before .before .before .before .before .before .before .before .before .before .before .before .before .pre .1 .3) (c .before .before .before .before .before .before .before .before .before .before .before .before .before .before .before .before .before .address-of .ensures) (c .before .before .before .before .if2 .left) in (
       omega arith,
-      (c .before .before .before .before .before .before .before .before .before .before .before .before .before .before .before .before .before .before .before .before .before .pre .1 .0,
-      omega (arith, c .before .before .before .before .before .before .before .before .before .before .before .before .before .extend .ensures .size),
-      directory-chained (c .before .before .before .before .before .before .before .before .before .before .before .before .before .before .before .before .before .before .before .before .before .args .img .now) (c .before .before .before .before .before .before .before .before .before .before .before .before .before .before .before .before .before .before .before .before .before .args .levels) (c .before .before .before .before .before .before .before .before .before .before .before .before .before .before .before .before .before .before .before .before .before .args .slot) _ (c .before .before .before .before .before .before .before .before .before .before .before .before .before .before .before .before .before .before .before .before .before .pre .1 .0) (c .before .before .before .before .before .before .before .before .before .before .before .before .before .before .before .before .before .before .before .before .before .pre .1 .3) (c .before .before .before .before .before .before .before .before .before .before .before .before .before .before .before .before .before .address-of .ensures) (c .before .before .before .before .if2 .left) _ _ (c .before .before .before .get-word .ensures .0) (c .before .before .get-word2 .ensures .0)),
+      (
+        c .before .before .before .before .before .before .before .before .before .before .before .before .before .before .before .before .before .before .before .before .before .pre .1 .0,
+        omega (arith, c .before .before .before .before .before .before .before .before .before .before .before .before .before .extend .ensures .size),
+        directory-chained (c .before .before .before .before .before .before .before .before .before .before .before .before .before .before .before .before .before .before .before .before .before .args .img .now) (c .before .before .before .before .before .before .before .before .before .before .before .before .before .before .before .before .before .before .before .before .before .args .levels) (c .before .before .before .before .before .before .before .before .before .before .before .before .before .before .before .before .before .before .before .before .before .args .slot) _ (c .before .before .before .before .before .before .before .before .before .before .before .before .before .before .before .before .before .before .before .before .before .pre .1 .0) (c .before .before .before .before .before .before .before .before .before .before .before .before .before .before .before .before .before .before .before .before .before .pre .1 .3) (c .before .before .before .before .before .before .before .before .before .before .before .before .before .before .before .before .before .address-of .ensures) (c .before .before .before .before .if2 .left) _ _ (c .before .before .before .get-word .ensures .0) (c .before .before .get-word2 .ensures .0),
+      ),
     )
 
 list-entry-same-length-3 : (t : ℕ) → list-entry-lts.Need-same-length-3 (list-entry-calls t) (list-entry-at t) list-entry.Post

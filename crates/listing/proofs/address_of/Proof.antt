@@ -1,28 +1,22 @@
+-- `listing::address_of` meets its contract. The address is the definition's own. Assumes nothing.
 use mathlib.Core.Path.{refl}
 use Rattle.model.specs.Directory.{at}
 use borrow.Author.Needs.{needs}
 use Rattle.listing.proofs.address_of.Statement.{statement}
 use Rattle.listing.proofs.address_of.Tie as tie
-use Rattle.listing.proofs.address_of.Reads as reads
-use Rattle.listing.proofs.address_of.Lts as lts
 
--- src/lib.rt:142:5
 mul-result : tie.Need-mul-result
 mul-result c = search needs
 
--- src/lib.rt:142:5
 add-result : tie.Need-add-result
 add-result c = search needs
 
--- src/lib.rt:142:32
 mul-result-2 : tie.Need-mul-result-2
 mul-result-2 c = search needs
 
--- src/lib.rt:142:5
 add-result-2 : tie.Need-add-result-2
 add-result-2 c = search needs
 
--- src/lib.rt:138:1
 returns : tie.Need-returns
 unfolding at
 returns c = refl

@@ -1,40 +1,32 @@
+-- `listing::emit_byte` meets its contract. The byte is skipped, laid on the page, or past its end. Assumes nothing.
 use native.Mathlib.Omega.{arith}
 use Rattle.listing.proofs.InkLaws.{byte-skipped, byte-laid, byte-past}
 use borrow.Author.Needs.{needs}
 use Rattle.listing.proofs.emit_byte.Statement.{statement}
 use Rattle.listing.proofs.emit_byte.Tie as tie
-use Rattle.listing.proofs.emit_byte.Reads as reads
-use Rattle.listing.proofs.emit_byte.Lts as lts
 
--- src/lib.rt:26:19
 sub-t6 : tie.Need-sub-t6
 sub-t6 c = search needs
 
--- src/lib.rt:25:9
 returns : tie.Need-returns
 returns c =
     let a = c .before .before .before .args in
     byte-skipped (a .ink .skip) (a .ink .at) (a .byte) (a .page .now) (omega arith)
 
--- src/lib.rt:31:9
 slice-write-page : tie.Need-slice-write-page
 slice-write-page c = search needs
 
--- src/lib.rt:34:17
 add-t9 : tie.Need-add-t9
 add-t9 c = search needs
 
--- src/lib.rt:32:9
 same-length : tie.Need-same-length
 same-length c = search needs
 
--- src/lib.rt:32:9
 returns-2 : tie.Need-returns-2
 returns-2 c =
     let a = c .before .before .before .args in
     byte-laid (a .ink .skip) (a .ink .at) (a .byte) (a .page .now) (omega arith) (omega arith)
 
--- src/lib.rt:20:1
 returns-3 : tie.Need-returns-3
 returns-3 c =
     let a = c .before .before .before .args in

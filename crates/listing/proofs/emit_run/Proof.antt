@@ -1,3 +1,4 @@
+-- `listing::emit_run` meets its contract. The invariant says what is left to be emitted. Assumes nothing.
 use native.Mathlib.Omega.{arith}
 use Prim.Native.Nat.{_+_, _-_, _≤_}
 use mathlib.Core.Path.{_≡_, refl, ap}
@@ -10,9 +11,6 @@ use Rattle.listing.proofs.TextLaws.{text-at, text-next, text-end}
 use borrow.Author.Needs.{needs}
 use Rattle.listing.proofs.emit_run.Statement.{statement}
 use Rattle.listing.proofs.emit_run.Tie as tie
-use Rattle.listing.proofs.emit_run.Reads as reads
-use Rattle.listing.proofs.emit_run.Lts as lts
-use Rattle.listing.proofs.emit_byte.Reads as emit-byte-reads
 
 abbrev Inv-loop : tie.InvT-loop
 Inv-loop page₀ s start count now₀ passed₀ page now passed =
@@ -23,7 +21,6 @@ Inv-loop page₀ s start count now₀ passed₀ page now passed =
 abbrev μ-loop : tie.MeasureT-loop
 μ-loop page₀ s start count now₀ passed₀ page now passed = count - passed
 
--- src/lib.rt:47:5
 loop-holds : tie.Need-loop-holds Inv-loop μ-loop
 loop-holds c =
     let a = c .before .before .args in (
@@ -32,27 +29,21 @@ loop-holds c =
       ap (λ l. emit l (sheet (a .ink) (a .page .now))) (text-at (view (a .s .now)) _ _ _ _ (omega arith) (omega arith)),
     )
 
--- src/lib.rt:48:38
 add-emit-byte : tie.Need-add-emit-byte Inv-loop μ-loop
 add-emit-byte c = search needs
 
--- src/lib.rt:48:36
 shared-slice-read-emit-byte : tie.Need-shared-slice-read-emit-byte Inv-loop μ-loop
 shared-slice-read-emit-byte c = search needs
 
--- src/lib.rt:48:9
 emit-byte-requires : tie.Need-emit-byte-requires Inv-loop μ-loop
 emit-byte-requires c κs = search needs
 
--- src/lib.rt:49:9
 add-passed : tie.Need-add-passed Inv-loop μ-loop
 add-passed c = search needs
 
--- src/lib.rt:47:5
 loop-less : tie.Need-loop-less Inv-loop μ-loop
 loop-less c = search needs
 
--- src/lib.rt:47:5
 loop-again : tie.Need-loop-again Inv-loop μ-loop
 loop-again c =
     let a = c .before .before .before .before .before .before .before .before .before .args in
@@ -62,11 +53,9 @@ loop-again c =
       emit-rest _ _ _ (text-next (view (a .s .now)) (a .start) (a .count) (l .passed) (omega arith)) (c .before .before .emit-byte .ensures) (l .inv .2),
     )
 
--- src/lib.rt:41:1
 same-length : tie.Need-same-length Inv-loop μ-loop
 same-length c = search needs
 
--- src/lib.rt:41:1
 returns : tie.Need-returns Inv-loop μ-loop
 returns c =
     let a = c .before .before .before .before .args in

@@ -1,35 +1,25 @@
+-- `listing::page_of_refusal` meets its contract. A page shows what the line leaves on it. Assumes nothing.
 use Rattle.model.specs.Catalog.{text, refusedLine}
 use Rattle.listing.proofs.InkLaws.{shows, _then_}
 use borrow.Author.Needs.{needs}
 use Rattle.listing.proofs.page_of_refusal.Statement.{statement}
 use Rattle.listing.proofs.page_of_refusal.Tie as tie
-use Rattle.listing.proofs.page_of_refusal.Reads as reads
-use Rattle.listing.proofs.page_of_refusal.Lts as lts
-use Rattle.listing.proofs.emit_byte.Reads as emit-byte-reads
-use Rattle.listing.proofs.emit_hex_byte.Reads as emit-hex-byte-reads
-use Rattle.listing.proofs.emit_run.Reads as emit-run-reads
 
--- src/lib.rt:247:38
 slice-aggregate-emit-run : tie.Need-slice-aggregate-emit-run
 slice-aggregate-emit-run c = search needs
 
--- src/lib.rt:247:9
 emit-run-requires : tie.Need-emit-run-requires
 emit-run-requires c κs = search needs
 
--- src/lib.rt:248:9
 emit-hex-byte-requires : tie.Need-emit-hex-byte-requires
 emit-hex-byte-requires c κs = search needs
 
--- src/lib.rt:249:9
 emit-byte-requires : tie.Need-emit-byte-requires
 emit-byte-requires c κs = search needs
 
--- src/lib.rt:240:1
 same-length : tie.Need-same-length
 same-length c = search needs
 
--- src/lib.rt:240:1
 returns : tie.Need-returns
 unfolding text refusedLine
 returns c = shows _ _ _ _ _ (c .before .before .before .before .before .before .before .before .before .before .emit-run .ensures then c .before .before .before .before .before .before .emit-hex-byte .ensures then c .before .before .emit-byte .ensures)

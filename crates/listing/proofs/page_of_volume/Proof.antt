@@ -1,20 +1,15 @@
+-- `listing::page_of_volume` meets its contract. A page shows what the whole listing leaves on it. Assumes nothing.
 use Rattle.listing.proofs.InkLaws.{shows}
 use borrow.Author.Needs.{needs}
 use Rattle.listing.proofs.page_of_volume.Statement.{statement}
 use Rattle.listing.proofs.page_of_volume.Tie as tie
-use Rattle.listing.proofs.page_of_volume.Reads as reads
-use Rattle.listing.proofs.page_of_volume.Lts as lts
-use Rattle.listing.proofs.list_volume.Reads as list-volume-reads
 
--- src/lib.rt:235:9
 list-volume-requires : tie.Need-list-volume-requires
 list-volume-requires c κs = search needs
 
--- src/lib.rt:226:1
 same-length : tie.Need-same-length
 same-length c = search needs
 
--- src/lib.rt:226:1
 returns : tie.Need-returns
 returns c = shows _ _ _ _ _ (c .before .before .list-volume .ensures)
 
