@@ -2,12 +2,12 @@
 // The text is never held as a whole: the walk emits it byte by byte, and a page keeps what falls on it.
 ghost use mathlib.Core.Path.{_≡_};
 ghost use mathlib.Core.Bool.{true};
-ghost use mathlib.Core.List.{[], _∷_, _++_};
-ghost use Prim.Native.Nat.{_+_, _-_, _*_, _/_, _%_, _≤_, _<_};
+ghost use mathlib.Core.List.{[], _∷_};
+ghost use Prim.Native.Nat.{_+_, _*_, _/_, _≤_, _<_};
 ghost use lib.ListN.{length};
 ghost use Rattle.model.specs.Bytes.{view};
 ghost use Rattle.model.specs.Directory.{at};
-ghost use Rattle.model.specs.Catalog.{decimalBefore, decimal, hexDigit, hexByte, text, space′, newline, firstLine, listing, refusedLine, tooLargeLine};
+ghost use Rattle.model.specs.Catalog.{decimalBefore, decimal, hexDigit, hexByte, text, space′, firstLine, listing, refusedLine, tooLargeLine};
 ghost use Rattle.model.specs.Sound.{sound};
 ghost use Rattle.directory.specs.Search.{Each, slotsFrom, listed};
 ghost use Rattle.listing.specs.Ink.{sheet, Prints, Shows};
@@ -98,7 +98,7 @@ fn emit_number(page: &mut [u8], ink: Ink, places: usize, x: usize) -> Ink
     emit_byte(page, high, 48 + (x % 10) as u8)
 }
 
-// A space and a number in decimal.
+// A space and a number in decimal: no number of a listing has more than eight digits.
 fn emit_decimal(page: &mut [u8], ink: Ink, x: usize) -> Ink
     ensures { λ r. ⌜ Prints (space′ ∷ decimal x) (sheet ink (now (page .entry))) (sheet r (now (page .exit))) ⌝ }
 {
