@@ -40,3 +40,7 @@ pub mod Reset
 pub mod Reading
 pub mod Elsewhere
 pub mod Sequence
+pub mod Exactly
+pub mod Roles
+pub mod Twice
+pub mod Example
