@@ -1,1 +1,2 @@
 pub mod SaneLaws
+pub mod OpenedLaws
