@@ -1,2 +1,5 @@
 pub mod SaneLaws
+pub mod VolumeLaws
 pub mod OpenedLaws
+pub mod EntryLaws
+pub mod TellLaws

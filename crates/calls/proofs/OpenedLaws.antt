@@ -20,27 +20,14 @@ use Rattle.calls.specs.declared.Volume.{Volume}
 use Rattle.calls.specs.declared.Volume.the-variants as volumes
 use Rattle.calls.specs.declared.Opened.{Opened}
 use Rattle.calls.specs.declared.Opened.the-variants as opened
+use Rattle.claims.proofs.TestLaws.{and-true}
+use Rattle.calls.proofs.VolumeLaws.{volumeOr, volume-first, Fits, fits}
 
 -- the number of a refused answer, or what the rows that follow give
-abbrev pub volumeOr : Volume → ℕ → ℕ
-volumeOr (volumes.Sound n) x = x
-volumeOr (volumes.Refused r) x = refusalNumber r
-
 abbrev pub openedOr : Opened → ℕ → ℕ
 openedOr (opened.Volume n) x = x
 openedOr (opened.Entry n s e) x = x
 openedOr (opened.Refused r) x = refusalNumber r
-
--- $52 and $5A
-pub volume-first : (len : ℕ) (v : Bytes) (rest : List Row) → first (notProdos len v ∷ notSound len v ∷ rest) ≡ volumeOr (volumeIn len v) (first rest)
-unfolding first volumeIn
-volume-first len v rest = go (wholeBlocks len and prodos (total len) v) (sound (total len) v)
-  where
-    go : (a b : Bool) → elim (not a) as (λ _. ℕ) [ true ↦ 0x52 | false ↦ elim (not b) [ true ↦ 0x5A | false ↦ first rest ] ]
-        ≡ volumeOr (elim a as (λ _. Volume) [ true ↦ elim b [ true ↦ volumes.Sound (total len) | false ↦ volumes.Refused NotSound ] | false ↦ volumes.Refused NotProdos ]) (first rest)
-    go true true = refl
-    go true false = refl
-    go false b = refl
 
 -- $45, $44 and $46
 target-first : (n : ℕ) (v : Bytes) (t : Target) (rest : List Row) → first (notVolume t ∷ notDirectory t ∷ notFound t ∷ rest) ≡ openedOr (openedAt n v t) (first rest)
@@ -73,19 +60,19 @@ opened-first len v p k rest = volume-first len v _ ∙ after (volumeIn len v)
 -- What it means that a path was opened: why it was refused, or where it leads on a sound volume.
 pub data Seen (len : ℕ) (v p : Bytes) (k : ℕ) : Opened → Type 0 where
   refused : (r : Refusal) → openedBy len v p k ≡ opened.Refused r → Seen len v p k (opened.Refused r)
-  on-volume : (d : ℕ) → sound (total len) v ≡ true → target v p k ≡ there d volume → Seen len v p k (opened.Volume (total len))
-  on-entry : (d s : ℕ) → sound (total len) v ≡ true → target v p k ≡ there d s → (s ≡ volume → ⊥) → Seen len v p k (opened.Entry (total len) (placeOf s) (entryOf v (at s)))
+  on-volume : (d : ℕ) → Fits len v (total len) → target v p k ≡ there d volume → Seen len v p k (opened.Volume (total len))
+  on-entry : (d s : ℕ) → Fits len v (total len) → target v p k ≡ there d s → (s ≡ volume → ⊥) → Seen len v p k (opened.Entry (total len) (placeOf s) (entryOf v (at s)))
 
 pub seen : (len : ℕ) (v p : Bytes) (k : ℕ) → Seen len v p k (openedBy len v p k)
 unfolding openedOn volumeIn openedAt
 seen len v p k = whole (wholeBlocks len and prodos (total len) v) (sound (total len) v) (properPath p k) refl refl refl
   where
-    found : (b : Bool) (d s : ℕ) → sound (total len) v ≡ true → target v p k ≡ there d s → eqb s volume ≡ b
+    found : (b : Bool) (d s : ℕ) → Fits len v (total len) → target v p k ≡ there d s → eqb s volume ≡ b
         → (openedBy len v p k ≡ elim b as (λ _. Opened) [ true ↦ opened.Volume (total len) | false ↦ opened.Entry (total len) (placeOf s) (entryOf v (at s)) ])
         → Seen len v p k (elim b as (λ _. Opened) [ true ↦ opened.Volume (total len) | false ↦ opened.Entry (total len) (placeOf s) (entryOf v (at s)) ])
     found true d s h t e q = on-volume d h (t ∙ ap (there d) (eqb-true s volume e))
     found false d s h t e q = on-entry d s h t (eqb-false s volume e)
-    led : (t : Target) → sound (total len) v ≡ true → target v p k ≡ t → openedBy len v p k ≡ openedAt (total len) v t → Seen len v p k (openedAt (total len) v t)
+    led : (t : Target) → Fits len v (total len) → target v p k ≡ t → openedBy len v p k ≡ openedAt (total len) v t → Seen len v p k (openedAt (total len) v t)
     led noVolume h e q = refused NoVolume q
     led noDirectory h e q = refused NoDirectory q
     led (missing d) h e q = refused NotFound q
@@ -102,4 +89,4 @@ seen len v p k = whole (wholeBlocks len and prodos (total len) v) (sound (total 
     whole false b c e f g = let q : openedBy len v p k ≡ opened.Refused NotProdos = ap (λ o. openedOn o v p k) (as-volume false b e f) in rw q (refused NotProdos q)
     whole true false c e f g = let q : openedBy len v p k ≡ opened.Refused NotSound = ap (λ o. openedOn o v p k) (as-volume true false e f) in rw q (refused NotSound q)
     whole true true false e f g = let q : openedBy len v p k ≡ opened.Refused BadPath = ap (λ o. openedOn o v p k) (as-volume true true e f) ∙ as-path false g in rw q (refused BadPath q)
-    whole true true true e f g = let q : openedBy len v p k ≡ openedAt (total len) v (target v p k) = ap (λ o. openedOn o v p k) (as-volume true true e f) ∙ as-path true g in rw q (led (target v p k) f refl q)
+    whole true true true e f g = let q : openedBy len v p k ≡ openedAt (total len) v (target v p k) = ap (λ o. openedOn o v p k) (as-volume true true e f) ∙ as-path true g in rw q (led (target v p k) (fits len v (and-true (wholeBlocks len) (prodos (total len) v) .0 e .0) f) refl q)
