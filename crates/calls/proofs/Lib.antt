@@ -3,3 +3,4 @@ pub mod VolumeLaws
 pub mod OpenedLaws
 pub mod EntryLaws
 pub mod TellLaws
+pub mod ReadLaws
