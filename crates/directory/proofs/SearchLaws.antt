@@ -1,9 +1,9 @@
 -- A search goes on slot by slot in a block, and block by block in a chain. Assumes nothing.
 use mathlib.Core.Path.{_≡_, refl, sym, ap, subst, _∙_}
 use mathlib.Core.Bool.{Bool, true, false}
-use mathlib.Core.List.{List, [], _∷_, _++_, List·Memᴰ, List·Memᴰ·head, List·Memᴰ·tail, Memᴰ·append-left, Memᴰ·append-right}
+use mathlib.Core.List.{List, [], _∷_, _++_, List·Memᴰ·head, List·Memᴰ·tail, Memᴰ·append-left, Memᴰ·append-right}
 use mathlib.Core.Option.{Option, none, some}
-use Prim.Native.Nat.{ℕ, zero, suc, _+_, _-_, _*_, _≤_, _<_}
+use Prim.Native.Nat.{ℕ, zero, suc, _+_, _-_, _≤_, _<_}
 use lib.ListN.{drop}
 use lib.Seq.{drop-nil}
 use native.Mathlib.Omega.{arith}
@@ -15,7 +15,7 @@ use Rattle.model.specs.declared.Place.{Place}
 use Rattle.model.specs.declared.Found.the-variants as found
 use Rattle.directory.specs.Slots.{placeNumber, placeOf, Counted, entryOf, slotSays}
 use Rattle.directory.specs.declared.Slot.the-variants.{Active}
-use Rattle.directory.specs.Search.{Each, Readable, Searchable, slotsFrom, listed, foundAt, vacancyAt}
+use Rattle.directory.specs.Search.{Each, Readable, Searchable, slotsFrom, foundAt, vacancyAt}
 use Rattle.directory.specs.declared.Vacancy.the-variants as vacancy
 use Rattle.directory.proofs.SlotLaws.{place-one, place-two, place-next, place-of, says-active}
 

@@ -3,14 +3,18 @@
 ghost use mathlib.Core.Path.{_≡_};
 ghost use mathlib.Core.Bool.{true};
 ghost use mathlib.Core.List.{[], _∷_};
-ghost use Prim.Native.Nat.{_+_, _-_, _*_, _≤_, _<_};
+ghost use Prim.Native.Nat.{_+_, _*_, _≤_, _<_};
 ghost use lib.ListN.{length};
 ghost use Rattle.model.specs.Bytes.{view, word, long};
+ghost use Rattle.model.specs.Names.{properParts, properPath};
 ghost use Rattle.model.specs.Kinds.{kindFor};
-ghost use Rattle.model.specs.Directory.{at, volume, sort, vacant};
+ghost use Rattle.model.specs.Directory.{at, volume, sort, vacant, along};
+ghost use Rattle.model.specs.Calls.{target};
 ghost use Rattle.model.specs.Info.{stampAt};
 ghost use Rattle.directory.specs.Slots.{placeNumber, Counted, entryWith, entryOf, slotSays, decoded};
 ghost use Rattle.directory.specs.Search.{Each, Readable, Searchable, slotsFrom, listed, foundIn, vacancyAt};
+ghost use Rattle.directory.specs.Lookup.{Sane, lookedAs, innerOf, lastOf};
+ghost use Rattle.names.specs.Steps.{partsLeft};
 use model::Entry;
 use model::Found;
 use model::Kind;
@@ -24,6 +28,11 @@ const BLOCK: usize = 512;
 const SLOT_SIZE: usize = 39;
 
 const SLOTS: usize = 13;
+
+// The volume directory is blocks 2, 3, 4, 5. Its header is slot 1 of block 2.
+const VOLUME_BLOCK: u16 = 2;
+
+const VOLUME_LENGTH: u16 = 4;
 
 const VOLUME_HEADER: usize = 1028;
 
@@ -57,6 +66,13 @@ pub enum Looked {
     Volume,
 }
 
+// A directory that was found, or none.
+enum Inner {
+    Directory(Home),
+    Other,
+}
+
+// Document 01: one match with ranges picks the kind of a data file.
 pub fn kind_for(eof: u32, key: u16) -> Kind
     ensures { λ r. ⌜ r ≡ kindFor eof key ⌝ }
 {
@@ -254,4 +270,97 @@ pub fn vacant_in(img: &[u8], n: usize, key: usize, used: usize) -> Vacancy
         first = 1;
     }
     Vacancy::Full
+}
+
+// What was found, as the home of what is below it.
+fn inner_of(found: Found) -> Inner
+    ensures { λ r. ⌜ r ≡ innerOf found ⌝ }
+{
+    let Found::At(place, entry) = found else {
+        return Inner::Other;
+    };
+    let used = entry.used;
+    let kind = entry.kind;
+    match kind {
+        Kind::Directory(key) => Inner::Directory(Home { place, key, used }),
+        Kind::Seedling(_) => Inner::Other,
+        Kind::Sapling(_) => Inner::Other,
+        Kind::Tree(_) => Inner::Other,
+    }
+}
+
+// What was found for the last name of a path.
+fn last_of(home: Home, found: Found) -> Looked
+    ensures { λ r. ⌜ r ≡ lastOf home found ⌝ }
+{
+    match found {
+        Found::At(place, entry) => Looked::There(home, place, entry),
+        Found::Missing => Looked::Missing(home),
+    }
+}
+
+// The names from a cursor on, of which there is one at least, from the volume directory on.
+fn follow(img: &[u8], n: usize, path: &[u8], from: Cursor) -> Looked
+    requires { ⌜ (n ≤ 65535) × (length (now img) ≡ n * 512) × Sane n (view (now img)) ⌝ }
+    requires { ⌜ from .at < length (now path) ⌝ }
+    requires { ⌜ properParts (view (now path)) (partsLeft (view (now path)) (length (now path)) (from .at)) ≡ true ⌝ }
+    ensures { λ r. ⌜ r ≡ lookedAs (view (now (img .entry))) (along (view (now (img .entry))) (view (now (path .entry))) volume (partsLeft (view (now (path .entry))) (length (now (path .entry))) (from .at))) ⌝ }
+{
+    let mut home = Home {
+        place: Place {
+            block: VOLUME_BLOCK,
+            slot: 1,
+        },
+        key: VOLUME_BLOCK,
+        used: VOLUME_LENGTH,
+    };
+    let mut cursor = from;
+    loop {
+        match cursor.step(path) {
+            Step::Name { start, end, next } => {
+                let key = home.key as usize;
+                let used = home.used as usize;
+                let name = names::name_at(path, start, end);
+                let found = find_in(img, n, key, used, name);
+                if end == path.len() {
+                    return last_of(home, found);
+                }
+                let Inner::Directory(inner) = inner_of(found) else {
+                    return Looked::NoDirectory;
+                };
+                home = inner;
+                cursor = next;
+            }
+            // A proper path has its names up to its end.
+            Step::End => {
+                return Looked::NoDirectory;
+            }
+            Step::Bad => {
+                return Looked::NoDirectory;
+            }
+        }
+    }
+}
+
+// What a proper path leads to.
+pub fn lookup(img: &[u8], n: usize, path: &[u8]) -> Looked
+    requires { ⌜ (n ≤ 65535) × (length (now img) ≡ n * 512) × Sane n (view (now img)) ⌝ }
+    requires { ⌜ properPath (view (now path)) (length (now path)) ≡ true ⌝ }
+    ensures { λ r. ⌜ r ≡ lookedAs (view (now (img .entry))) (target (view (now (img .entry))) (view (now (path .entry))) (length (now (path .entry)))) ⌝ }
+{
+    match Cursor::new().step(path) {
+        Step::Name { start, end, next } => {
+            let name = names::name_at(path, start, end);
+            if !names::same_name(&img[VOLUME_HEADER..VOLUME_HEADER + SLOT_SIZE], name) {
+                return Looked::NoVolume;
+            }
+            if end == path.len() {
+                return Looked::Volume;
+            }
+            follow(img, n, path, next)
+        }
+        // A proper path begins with a name.
+        Step::End => Looked::NoVolume,
+        Step::Bad => Looked::NoVolume,
+    }
 }

@@ -1,45 +1,35 @@
+-- `directory::decode` meets its contract: each case of the match is one sort. Assumes nothing.
 use mathlib.Core.Path.{_≡_, sym, ap, _∙_}
-use Rattle.model.specs.Bytes.{Bytes, view}
+use Prim.Native.Nat.{_/_}
+use native.Mathlib.Omega.{arith}
+use borrow.Author.Needs.{needs}
+use Rattle.model.specs.Bytes.{view}
 use Rattle.model.specs.Directory.{inactive, directory, improper, file, sortOf}
 use Rattle.model.specs.declared.Kind.the-variants.{Seedling, Sapling, Tree, Directory}
 use Rattle.directory.specs.Slots.{entryWith}
 use Rattle.directory.specs.declared.Slot.the-variants.{Active}
 use Rattle.directory.proofs.SlotLaws.{decoded-as, sort-improper}
-use native.Mathlib.Omega.{arith}
-use Prim.Native.Nat.{_/_}
-use borrow.Author.Needs.{needs}
 use Rattle.directory.proofs.decode.Statement.{statement}
 use Rattle.directory.proofs.decode.Tie as tie
-use Rattle.directory.proofs.decode.Reads as reads
-use Rattle.directory.proofs.decode.Lts as lts
-use Rattle.directory.proofs.entry_with.Reads as entry-with-reads
-use Rattle.directory.proofs.word_at.Reads as word-at-reads
 
--- src/lib.rt:117:9
 word-at-requires : tie.Need-word-at-requires
 word-at-requires c κs = search needs
 
--- src/lib.rt:118:11
 shared-slice-read-match : tie.Need-shared-slice-read-match
 shared-slice-read-match c = search needs
 
--- src/lib.rt:120:27
 entry-with-requires : tie.Need-entry-with-requires
 entry-with-requires c κs = search needs
 
--- src/lib.rt:121:27
 entry-with-requires-2 : tie.Need-entry-with-requires-2
 entry-with-requires-2 c κs = search needs
 
--- src/lib.rt:122:27
 entry-with-requires-3 : tie.Need-entry-with-requires-3
 entry-with-requires-3 c κs = search needs
 
--- src/lib.rt:123:28
 entry-with-requires-4 : tie.Need-entry-with-requires-4
 entry-with-requires-4 c κs = search needs
 
--- src/lib.rt:113:1
 returns : tie.Need-returns
 unfolding sortOf
 returns c =
@@ -47,7 +37,6 @@ returns c =
     let e : f 0 / 16 ≡ 0 = omega arith in
     sym (decoded-as f inactive (ap sortOf e))
 
--- src/lib.rt:113:1
 returns-2 : tie.Need-returns-2
 unfolding sortOf
 returns-2 c =
@@ -55,7 +44,6 @@ returns-2 c =
     let e : f 0 / 16 ≡ 1 = omega arith in
     ap Active (c .entry-with .ensures ∙ ap (λ k. entryWith f 0 (Seedling k)) (c .before .before .before .word-at .ensures)) ∙ sym (decoded-as f (file 0) (ap sortOf e))
 
--- src/lib.rt:113:1
 returns-3 : tie.Need-returns-3
 unfolding sortOf
 returns-3 c =
@@ -63,7 +51,6 @@ returns-3 c =
     let e : f 0 / 16 ≡ 2 = omega arith in
     ap Active (c .entry-with2 .ensures ∙ ap (λ k. entryWith f 0 (Sapling k)) (c .before .before .before .word-at .ensures)) ∙ sym (decoded-as f (file 1) (ap sortOf e))
 
--- src/lib.rt:113:1
 returns-4 : tie.Need-returns-4
 unfolding sortOf
 returns-4 c =
@@ -71,7 +58,6 @@ returns-4 c =
     let e : f 0 / 16 ≡ 3 = omega arith in
     ap Active (c .entry-with3 .ensures ∙ ap (λ k. entryWith f 0 (Tree k)) (c .before .before .before .word-at .ensures)) ∙ sym (decoded-as f (file 2) (ap sortOf e))
 
--- src/lib.rt:113:1
 returns-5 : tie.Need-returns-5
 unfolding sortOf
 returns-5 c =
@@ -79,7 +65,6 @@ returns-5 c =
     let e : f 0 / 16 ≡ 13 = omega arith in
     ap Active (c .entry-with4 .ensures ∙ ap (λ k. entryWith f 0 (Directory k)) (c .before .before .before .word-at .ensures)) ∙ sym (decoded-as f directory (ap sortOf e))
 
--- src/lib.rt:113:1
 returns-6 : tie.Need-returns-6
 returns-6 c =
     let f = view (c .before .before .before .before .args .slot .now) in

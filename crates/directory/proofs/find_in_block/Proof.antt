@@ -1,18 +1,16 @@
+-- `directory::find_in_block` meets its contract: the loop's invariant: the slots from `slot` on decide. Assumes nothing.
 use mathlib.Core.Path.{_≡_, refl, sym, _∙_}
-use Rattle.directory.proofs.SearchLaws.{each-head, each-tail, seek-slot, seek-none, found-stays, found-rest, slots-more, slots-done}
-use native.Mathlib.Omega.{arith}
-use Prim.Native.Nat.{_≤_, _-_, _+_}
+use Prim.Native.Nat.{_≤_, _-_}
 use lib.ListN.{length}
+use native.Mathlib.Omega.{arith}
+use borrow.Author.Needs.{needs}
 use Rattle.model.specs.Bytes.{view}
 use Rattle.model.specs.Names.{part}
 use Rattle.model.specs.Directory.{place, seek}
 use Rattle.directory.specs.Search.{Each, Readable, slotsFrom}
-use borrow.Author.Needs.{needs}
+use Rattle.directory.proofs.SearchLaws.{each-head, each-tail, seek-slot, seek-none, found-stays, found-rest, slots-more, slots-done}
 use Rattle.directory.proofs.find_in_block.Statement.{statement}
 use Rattle.directory.proofs.find_in_block.Tie as tie
-use Rattle.directory.proofs.find_in_block.Reads as reads
-use Rattle.directory.proofs.find_in_block.Lts as lts
-use Rattle.directory.proofs.named_at.Reads as named-at-reads
 
 abbrev Inv-loop : tie.InvT-loop
 Inv-loop img block first name slot₀ slot =
@@ -23,19 +21,15 @@ Inv-loop img block first name slot₀ slot =
 abbrev μ-loop : tie.MeasureT-loop
 μ-loop img block first name slot₀ slot = 14 - slot
 
--- src/lib.rt:173:5
 loop-holds : tie.Need-loop-holds Inv-loop μ-loop
 loop-holds c = (omega arith, c .before .before .pre .1, refl)
 
--- src/lib.rt:175:20
 cast-t9 : tie.Need-cast-t9 Inv-loop μ-loop
 cast-t9 c = search needs
 
--- src/lib.rt:176:19
 cast-t10 : tie.Need-cast-t10 Inv-loop μ-loop
 cast-t10 c = search needs
 
--- src/lib.rt:178:13
 named-at-requires : tie.Need-named-at-requires Inv-loop μ-loop
 named-at-requires c κs =
     let a = c .before .before .before .before .args in
@@ -45,11 +39,9 @@ named-at-requires c κs =
       each-head (Readable (view (a .img .now))) (place (a .block) (l .slot)) _ _ (slots-more (a .block) (l .slot) (omega arith) (omega arith)) (l .inv .1),
     )
 
--- src/lib.rt:180:13
 enum-told : tie.Need-enum-told Inv-loop μ-loop
 enum-told c = search needs
 
--- src/lib.rt:180:13
 returns : tie.Need-returns Inv-loop μ-loop
 returns c =
     let a = c .before .before .before .before .before .before .before .args in
@@ -61,15 +53,12 @@ returns c =
 enum-told-2 : tie.Need-enum-told-2 Inv-loop μ-loop
 enum-told-2 c = search needs
 
--- src/lib.rt:182:9
 add-slot : tie.Need-add-slot Inv-loop μ-loop
 add-slot c = search needs
 
--- src/lib.rt:173:5
 loop-less : tie.Need-loop-less Inv-loop μ-loop
 loop-less c = search needs
 
--- src/lib.rt:173:5
 loop-again : tie.Need-loop-again Inv-loop μ-loop
 loop-again c =
     let a = c .before .before .before .before .before .before .before .args in
@@ -81,7 +70,6 @@ loop-again c =
       found-rest (view (a .img .now)) _ _ _ e (sym (r .ensures) ∙ c .enum-told2 .given .1),
     )
 
--- src/lib.rt:167:1
 returns-2 : tie.Need-returns-2 Inv-loop μ-loop
 returns-2 c =
     let a = c .before .before .before .before .args in

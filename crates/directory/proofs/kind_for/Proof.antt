@@ -1,18 +1,15 @@
-use borrow.Author.Tests.{le-leb, lt-leb}
-use native.Mathlib.Omega.{arith}
+-- `directory::kind_for` meets its contract: each range of the match is one case of kindFor. Assumes nothing.
 use Prim.Native.Nat.{_≤_, _<_}
+use native.Mathlib.Omega.{arith}
+use borrow.Author.Tests.{le-leb, lt-leb}
 use Rattle.model.specs.Kinds.{kindFor}
 use Rattle.directory.proofs.kind_for.Statement.{statement}
 use Rattle.directory.proofs.kind_for.Tie as tie
-use Rattle.directory.proofs.kind_for.Reads as reads
-use Rattle.directory.proofs.kind_for.Lts as lts
 
--- src/lib.rt:62:1
 returns : tie.Need-returns
 unfolding kindFor
 returns c = let e = c .before .args .eof in let h : e ≤ 512 = omega arith in rw (le-leb e 512 h, kindFor)
 
--- src/lib.rt:62:1
 returns-2 : tie.Need-returns-2
 unfolding kindFor
 returns-2 c =
@@ -21,7 +18,6 @@ returns-2 c =
     let k : e ≤ 131072 = omega arith in
     rw (lt-leb e 512 h, le-leb e 131072 k, kindFor)
 
--- src/lib.rt:62:1
 returns-3 : tie.Need-returns-3
 unfolding kindFor
 returns-3 c =

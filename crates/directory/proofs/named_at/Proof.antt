@@ -1,56 +1,43 @@
+-- `directory::named_at` meets its contract: an active entry with the name is found; else nothing is. Assumes nothing.
 use mathlib.Core.Path.{_≡_, sym, _∙_}
 use mathlib.Core.Bool.{true, false}
-use native.Mathlib.Omega.{arith}
 use Prim.Native.Nat.{_+_, _-_}
 use lib.ListN.{length}
+use native.Mathlib.Omega.{arith}
+use borrow.Author.Needs.{needs}
 use Rattle.model.specs.Bytes.{view}
 use Rattle.model.specs.Names.{part, sameName}
 use Rattle.model.specs.Directory.{at, sort}
 use Rattle.directory.specs.Slots.{placeNumber, entryOf}
 use Rattle.directory.proofs.SlotLaws.{at-place, slot-named, says-inactive, says-improper}
 use Rattle.directory.proofs.SearchLaws.{found-here, found-other, found-inactive}
-use borrow.Author.Needs.{needs}
 use Rattle.directory.proofs.named_at.Statement.{statement}
 use Rattle.directory.proofs.named_at.Tie as tie
-use Rattle.directory.proofs.named_at.Reads as reads
-use Rattle.directory.proofs.named_at.Lts as lts
-use Rattle.directory.proofs.entry_at.Reads as entry-at-reads
-use Rattle.directory.proofs.slot_at.Reads as slot-at-reads
-use Rattle.names.proofs.same_name.Reads as same-name-reads
 
--- src/lib.rt:152:11
 entry-at-requires : tie.Need-entry-at-requires
 entry-at-requires c κs = (c .before .before .pre .0, c .before .before .pre .1, c .before .before .pre .2 .entry)
 
--- src/lib.rt:153:22
 enum-known-entry : tie.Need-enum-known-entry
 enum-known-entry c = search needs
 
--- src/lib.rt:154:17
 slot-at-requires : tie.Need-slot-at-requires
 slot-at-requires c κs = search needs
 
--- src/lib.rt:155:23
 add-end : tie.Need-add-end
 add-end c = omega (arith, at-place (c .before .before .before .before .before .before .before .args .place) (c .before .before .before .before .before .before .before .pre .0))
 
--- src/lib.rt:156:33
 sub-same-name : tie.Need-sub-same-name
 sub-same-name c = search needs
 
--- src/lib.rt:156:33
 part-same-name-start : tie.Need-part-same-name-start
 part-same-name-start c = search needs
 
--- src/lib.rt:156:33
 part-same-name-end : tie.Need-part-same-name-end
 part-same-name-end c = omega (arith, at-place (c .before .before .before .before .before .before .before .args .place) (c .before .before .before .before .before .before .before .pre .0))
 
--- src/lib.rt:156:16
 same-name-requires : tie.Need-same-name-requires
 same-name-requires c κs = search needs
 
--- src/lib.rt:157:17
 returns : tie.Need-returns
 returns c =
     let a = c .before .before .before .before .before .before .before .before .before .before .args in
@@ -61,15 +48,12 @@ returns c =
     sym (slot-named (a .img .now) (b .result) (b .result + 39 - b .result) s (b .ensures) (omega arith) _ _) ∙ sym (c .before .same-name .ensures) ∙ c .if1 .taken in
     found-here v _ _ (a .place) _ (c .before .before .before .before .before .before .before .before .before .before .pre .0) (sym (c .before .before .before .before .before .before .before .entry-at .ensures) ∙ c .before .before .before .before .before .entry .given .1) m
 
--- src/lib.rt:161:27
 enum-told : tie.Need-enum-told
 enum-told c = search needs
 
--- src/lib.rt:162:27
 enum-told-2 : tie.Need-enum-told-2
 enum-told-2 c = search needs
 
--- src/lib.rt:148:1
 returns-2 : tie.Need-returns-2
 returns-2 c =
     let a = c .before .before .before .before .before .before .before .before .before .before .args in
@@ -80,7 +64,6 @@ returns-2 c =
     sym (slot-named (a .img .now) (b .result) (b .result + 39 - b .result) s (b .ensures) (omega arith) _ _) ∙ sym (c .before .same-name .ensures) ∙ c .if1 .left in
     found-other v _ _ (a .place) m
 
--- src/lib.rt:148:1
 returns-3 : tie.Need-returns-3
 returns-3 c =
     let a = c .before .before .before .before .before .args in
@@ -88,7 +71,6 @@ returns-3 c =
     let s = placeNumber (a .place) in
     found-inactive v _ _ (a .place) (says-inactive (sort v s) (entryOf v (at s)) (sym (c .before .before .entry-at .ensures) ∙ c .enum-told .given .1))
 
--- src/lib.rt:148:1
 returns-4 : tie.Need-returns-4
 returns-4 c =
     let a = c .before .before .before .before .before .args in

@@ -1,33 +1,26 @@
-use mathlib.Core.Path.{_≡_, sym, _∙_}
+-- `directory::vacant_at` meets its contract: an inactive slot is vacant. Assumes nothing.
+use mathlib.Core.Path.{sym, _∙_}
+use borrow.Author.Needs.{needs}
 use Rattle.model.specs.Bytes.{view}
 use Rattle.model.specs.Directory.{at, sort}
 use Rattle.directory.specs.Slots.{placeNumber, entryOf}
 use Rattle.directory.proofs.SlotLaws.{says-active, says-inactive, says-improper}
 use Rattle.directory.proofs.SearchLaws.{vacancy-here, vacancy-past}
-use borrow.Author.Needs.{needs}
 use Rattle.directory.proofs.vacant_at.Statement.{statement}
 use Rattle.directory.proofs.vacant_at.Tie as tie
-use Rattle.directory.proofs.vacant_at.Reads as reads
-use Rattle.directory.proofs.vacant_at.Lts as lts
-use Rattle.directory.proofs.entry_at.Reads as entry-at-reads
 
--- src/lib.rt:212:11
 entry-at-requires : tie.Need-entry-at-requires
 entry-at-requires c κs = (c .before .pre .0, c .before .pre .1, c .before .pre .2 .entry)
 
--- src/lib.rt:213:27
 enum-told : tie.Need-enum-told
 enum-told c = search needs
 
--- src/lib.rt:214:27
 enum-told-2 : tie.Need-enum-told-2
 enum-told-2 c = search needs
 
--- src/lib.rt:215:28
 enum-told-3 : tie.Need-enum-told-3
 enum-told-3 c = search needs
 
--- src/lib.rt:208:1
 returns : tie.Need-returns
 returns c =
     let a = c .before .before .before .before .args in
@@ -35,7 +28,6 @@ returns c =
     let s = placeNumber (a .place) in
     vacancy-here v (a .place) (c .before .before .before .before .pre .0) (says-inactive (sort v s) (entryOf v (at s)) (sym (c .before .before .entry-at .ensures) ∙ c .enum-told .given .1))
 
--- src/lib.rt:208:1
 returns-2 : tie.Need-returns-2
 returns-2 c =
     let a = c .before .before .before .before .args in
@@ -43,7 +35,6 @@ returns-2 c =
     let s = placeNumber (a .place) in
     absurd (c .before .before .before .before .pre .2 .proper (says-improper (sort v s) (entryOf v (at s)) (sym (c .before .before .entry-at .ensures) ∙ c .enum-told2 .given .1)))
 
--- src/lib.rt:208:1
 returns-3 : tie.Need-returns-3
 returns-3 c =
     let a = c .before .before .before .before .args in

@@ -1,16 +1,13 @@
+-- `directory::vacant_in` meets its contract: the loop's invariant: what is left of the chain decides. Assumes nothing.
 use mathlib.Core.Path.{_≡_, refl, sym, _∙_}
 use native.Mathlib.Omega.{arith}
+use borrow.Author.Needs.{needs}
 use Rattle.model.specs.Bytes.{view}
 use Rattle.model.specs.Directory.{vacant}
 use Rattle.directory.specs.Search.{listed}
 use Rattle.directory.proofs.SearchLaws.{rest, rest-done, Searching, searching, searching-block, searching-slots, searching-next, vacant-block, vacant-none, vacancy-stays, vacancy-rest}
-use borrow.Author.Needs.{needs}
 use Rattle.directory.proofs.vacant_in.Statement.{statement}
 use Rattle.directory.proofs.vacant_in.Tie as tie
-use Rattle.directory.proofs.vacant_in.Reads as reads
-use Rattle.directory.proofs.vacant_in.Lts as lts
-use Rattle.directory.proofs.vacant_in_block.Reads as vacant-in-block-reads
-use Rattle.store.proofs.get_word.Reads as get-word-reads
 
 abbrev Inv-loop : tie.InvT-loop
 Inv-loop img n key used block₀ left₀ first₀ block left first =
@@ -20,11 +17,9 @@ Inv-loop img n key used block₀ left₀ first₀ block left first =
 abbrev μ-loop : tie.MeasureT-loop
 μ-loop img n key used block₀ left₀ first₀ block left first = left
 
--- src/lib.rt:248:5
 loop-holds : tie.Need-loop-holds Inv-loop μ-loop
 loop-holds c = let a = c .before .args in (searching (a .n) (view (a .img .now)) (a .key) (a .used) (c .before .pre .2), refl)
 
--- src/lib.rt:249:13
 vacant-in-block-requires : tie.Need-vacant-in-block-requires Inv-loop μ-loop
 vacant-in-block-requires c κs =
     let a = c .before .before .before .args in
@@ -34,11 +29,9 @@ vacant-in-block-requires c κs =
       searching-slots (view (a .img .now)) (l .block) (l .left) (l .first) (omega arith) (a .n) (l .inv .0),
     )
 
--- src/lib.rt:251:13
 enum-told : tie.Need-enum-told Inv-loop μ-loop
 enum-told c = search needs
 
--- src/lib.rt:251:13
 returns : tie.Need-returns Inv-loop μ-loop
 returns c =
     let a = c .before .before .before .before .before .before .args in
@@ -50,7 +43,6 @@ returns c =
 enum-told-2 : tie.Need-enum-told-2 Inv-loop μ-loop
 enum-told-2 c = search needs
 
--- src/lib.rt:253:38
 mul-get-word : tie.Need-mul-get-word Inv-loop μ-loop
 mul-get-word c =
     let a = c .before .before .before .before .before .before .args in
@@ -58,7 +50,6 @@ mul-get-word c =
     let b = searching-block (view (a .img .now)) (l .block) (l .left) (l .first) (omega arith) (a .n) (l .inv .0) in
     omega arith
 
--- src/lib.rt:253:38
 add-get-word : tie.Need-add-get-word Inv-loop μ-loop
 add-get-word c =
     let a = c .before .before .before .before .before .before .args in
@@ -66,7 +57,6 @@ add-get-word c =
     let b = searching-block (view (a .img .now)) (l .block) (l .left) (l .first) (omega arith) (a .n) (l .inv .0) in
     omega arith
 
--- src/lib.rt:253:9
 get-word-requires : tie.Need-get-word-requires Inv-loop μ-loop
 get-word-requires c κs =
     let a = c .before .before .before .before .before .before .args in
@@ -74,15 +64,12 @@ get-word-requires c κs =
     let b = searching-block (view (a .img .now)) (l .block) (l .left) (l .first) (omega arith) (a .n) (l .inv .0) in
     omega arith
 
--- src/lib.rt:254:9
 sub-left : tie.Need-sub-left Inv-loop μ-loop
 sub-left c = search needs
 
--- src/lib.rt:248:5
 loop-less : tie.Need-loop-less Inv-loop μ-loop
 loop-less c = search needs
 
--- src/lib.rt:248:5
 loop-again : tie.Need-loop-again Inv-loop μ-loop
 loop-again c =
     let a = c .before .before .before .before .before .before .before .args in
@@ -94,7 +81,6 @@ loop-again c =
       vacancy-rest _ _ _ e (sym (r .ensures) ∙ c .before .enum-told2 .given .1),
     )
 
--- src/lib.rt:241:1
 returns-2 : tie.Need-returns-2 Inv-loop μ-loop
 returns-2 c =
     let a = c .before .before .before .args in

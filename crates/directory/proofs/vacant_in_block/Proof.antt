@@ -1,16 +1,14 @@
+-- `directory::vacant_in_block` meets its contract: the loop's invariant: the slots from `slot` on decide. Assumes nothing.
 use mathlib.Core.Path.{_≡_, refl, sym, _∙_}
-use Rattle.directory.proofs.SearchLaws.{each-head, each-tail, vacant-slot, vacant-none, vacancy-stays, vacancy-rest, slots-more, slots-done}
+use Prim.Native.Nat.{_≤_, _-_}
 use native.Mathlib.Omega.{arith}
-use Prim.Native.Nat.{_≤_, _-_, _+_}
+use borrow.Author.Needs.{needs}
 use Rattle.model.specs.Bytes.{view}
 use Rattle.model.specs.Directory.{place, vacant}
 use Rattle.directory.specs.Search.{Each, Readable, slotsFrom}
-use borrow.Author.Needs.{needs}
+use Rattle.directory.proofs.SearchLaws.{each-head, each-tail, vacant-slot, vacant-none, vacancy-stays, vacancy-rest, slots-more, slots-done}
 use Rattle.directory.proofs.vacant_in_block.Statement.{statement}
 use Rattle.directory.proofs.vacant_in_block.Tie as tie
-use Rattle.directory.proofs.vacant_in_block.Reads as reads
-use Rattle.directory.proofs.vacant_in_block.Lts as lts
-use Rattle.directory.proofs.vacant_at.Reads as vacant-at-reads
 
 abbrev Inv-loop : tie.InvT-loop
 Inv-loop img block first slot₀ slot =
@@ -21,19 +19,15 @@ Inv-loop img block first slot₀ slot =
 abbrev μ-loop : tie.MeasureT-loop
 μ-loop img block first slot₀ slot = 14 - slot
 
--- src/lib.rt:226:5
 loop-holds : tie.Need-loop-holds Inv-loop μ-loop
 loop-holds c = (omega arith, c .before .pre .1, refl)
 
--- src/lib.rt:228:20
 cast-t8 : tie.Need-cast-t8 Inv-loop μ-loop
 cast-t8 c = search needs
 
--- src/lib.rt:229:19
 cast-t9 : tie.Need-cast-t9 Inv-loop μ-loop
 cast-t9 c = search needs
 
--- src/lib.rt:231:13
 vacant-at-requires : tie.Need-vacant-at-requires Inv-loop μ-loop
 vacant-at-requires c κs =
     let a = c .before .before .before .args in
@@ -43,11 +37,9 @@ vacant-at-requires c κs =
       each-head (Readable (view (a .img .now))) (place (a .block) (l .slot)) _ _ (slots-more (a .block) (l .slot) (omega arith) (omega arith)) (l .inv .1),
     )
 
--- src/lib.rt:233:13
 enum-told : tie.Need-enum-told Inv-loop μ-loop
 enum-told c = search needs
 
--- src/lib.rt:233:13
 returns : tie.Need-returns Inv-loop μ-loop
 returns c =
     let a = c .before .before .before .before .before .before .args in
@@ -59,15 +51,12 @@ returns c =
 enum-told-2 : tie.Need-enum-told-2 Inv-loop μ-loop
 enum-told-2 c = search needs
 
--- src/lib.rt:235:9
 add-slot : tie.Need-add-slot Inv-loop μ-loop
 add-slot c = search needs
 
--- src/lib.rt:226:5
 loop-less : tie.Need-loop-less Inv-loop μ-loop
 loop-less c = search needs
 
--- src/lib.rt:226:5
 loop-again : tie.Need-loop-again Inv-loop μ-loop
 loop-again c =
     let a = c .before .before .before .before .before .before .args in
@@ -79,7 +68,6 @@ loop-again c =
       vacancy-rest _ _ _ e (sym (r .ensures) ∙ c .enum-told2 .given .1),
     )
 
--- src/lib.rt:220:1
 returns-2 : tie.Need-returns-2 Inv-loop μ-loop
 returns-2 c =
     let a = c .before .before .before .args in
