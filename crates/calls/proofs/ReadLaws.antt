@@ -27,7 +27,7 @@ use Rattle.facts.specs.Reached.{Deep}
 use Rattle.facts.proofs.BlockLaws.{FileFacts, met-file}
 use Rattle.directory.specs.Slots.{placeOf, kindOf, entryOf, entryWith}
 use Rattle.calls.specs.Opened.{openedBy}
-use Rattle.calls.specs.Reading.{isFolder, heightOf, entryReadNumber, entryCount, entryRead}
+use Rattle.calls.specs.Reading.{Readable, isFolder, heightOf, entryReadNumber, entryCount, entryRead}
 use Rattle.calls.specs.declared.Opened.{Opened}
 use Rattle.calls.specs.declared.Opened.the-variants as opened
 use Rattle.calls.proofs.VolumeLaws.{Fits}
@@ -115,11 +115,6 @@ filled-same : (v : Bytes) (s : ℕ) (x : Entry) (pos : ℕ) (buffer : Bytes) (si
     → filledFrom v s pos buffer size ≡ filled (entryCount x pos size) (paste buffer 0 (entryCount x pos size) (from (fileByte v (heightOf (x .kind)) (keyOf (x .kind))) pos))
 unfolding filledFrom toRead
 filled-same v s x pos buffer size e c = rw (e, ← c) refl
-
--- A data file that a path leads to: its decoded entry reads as its place does.
-pub record Readable (n : ℕ) (v : Bytes) (x : Entry) : Type 0 where
-  pub low : heightOf (x .kind) < 3
-  pub backed : Deep n v (heightOf (x .kind)) (keyOf (x .kind))
 
 module _ (n : ℕ) (v : Bytes) (d s : ℕ) (h : sound n v ≡ true) (w : Named v d s) (off : s ≡ volume → ⊥) where
   kind-is : entryOf v (at s) .kind ≡ kindOf (sort v s) (key v s)

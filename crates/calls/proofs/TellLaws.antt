@@ -26,7 +26,7 @@ use Rattle.model.specs.declared.InfoAnswer.the-variants as information
 use Rattle.model.proofs.RefusalLaws.{settle-refused, settle-accepted, number-refuses}
 use Rattle.claims.proofs.SoundFacts.{sound-facts}
 use Rattle.claims.proofs.TestLaws.{and-true}
-use Rattle.calls.specs.Opened.{volumeIn, openedBy}
+use Rattle.calls.specs.Opened.{volumeIn, openedBy, told}
 use Rattle.calls.specs.declared.Volume.{Volume}
 use Rattle.calls.specs.declared.Volume.the-variants as volumes
 use Rattle.calls.specs.declared.Opened.{Opened}
@@ -55,10 +55,6 @@ space-told len v n e =
       said = sym q;
       told = rw (f .size, ← f .placed) (sym (settle-accepted (spaceNumber len v) noSpace v (record { total = total len; unused = room (mapBlock v) v (total len) }) v q .0))
     }
-
--- what get info tells of an entry, from the decoded entry
-abbrev pub told : Entry → Info
-told x = record { kind = kindNumber (x .kind); ftype = x .ftype; access = x .access; aux = x .aux; used = x .used; eof = x .eof; created = x .created; modified = x .modified }
 
 -- get info: rows up to $46 only
 info-number : (len : ℕ) (v p : Bytes) (k : ℕ) → getInfoNumber len v p k (target v p k) ≡ openedOr (openedBy len v p k) 0

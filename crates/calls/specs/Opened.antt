@@ -9,6 +9,9 @@ use Rattle.model.specs.Sound.{wholeBlocks, prodos, sound}
 use Rattle.model.specs.Calls.{total, target}
 use Rattle.model.specs.declared.Refusal.{Refusal}
 use Rattle.model.specs.declared.Refusal.the-variants.{NotProdos, NotSound, BadPath, NoVolume, NoDirectory, NotFound}
+use Rattle.model.specs.Kinds.{kindNumber}
+use Rattle.model.specs.declared.Info.{Info}
+use Rattle.model.specs.declared.Entry.{Entry}
 use Rattle.directory.specs.Slots.{placeOf, entryOf}
 use Rattle.calls.specs.declared.Volume.{Volume}
 use Rattle.calls.specs.declared.Volume.the-variants as volumes
@@ -37,3 +40,7 @@ openedOn (volumes.Sound n) v p k = elim (properPath p k) [ true ↦ openedAt n v
 -- the path p of k bytes on an image of len bytes
 abbrev pub openedBy : ℕ → Bytes → Bytes → ℕ → Opened
 openedBy len v p k = openedOn (volumeIn len v) v p k
+
+-- what get info tells of an entry, from the decoded entry
+abbrev pub told : Entry → Info
+told x = record { kind = kindNumber (x .kind); ftype = x .ftype; access = x .access; aux = x .aux; used = x .used; eof = x .eof; created = x .created; modified = x .modified }

@@ -1,5 +1,5 @@
 -- Reading a file by its decoded entry.
-use Prim.Native.Nat.{ℕ, _-_, min}
+use Prim.Native.Nat.{ℕ, _-_, _<_, min}
 use mathlib.Core.List.{List, [], _∷_}
 use mathlib.Core.Bool.{Bool, true, false, not}
 use lib.Dec.{leb, ltb, eqb}
@@ -9,6 +9,7 @@ use Rattle.model.specs.File.{fileByte}
 use Rattle.model.specs.Refusals.{row, first, Outcome, settle}
 use Rattle.model.specs.Calls.{allows, readBit}
 use Rattle.model.specs.Read.{Filled, filled}
+use Rattle.facts.specs.Reached.{Deep}
 use Rattle.model.specs.declared.Entry.{Entry}
 use Rattle.model.specs.declared.Kind.{Kind}
 use Rattle.model.specs.declared.Kind.the-variants.{Seedling, Sapling, Tree, Directory}
@@ -44,3 +45,8 @@ entryRead v x pos buffer size =
     settle (entryReadNumber x pos size) (filled 0 buffer) v
     (filled (entryCount x pos size) (paste buffer 0 (entryCount x pos size) (from (fileByte v (heightOf (x .kind)) (keyOf (x .kind))) pos)))
     v
+
+-- what a data file's entry gives on a sound volume of n blocks
+pub record Readable (n : ℕ) (v : Bytes) (x : Entry) : Type 0 where
+  pub low : heightOf (x .kind) < 3
+  pub backed : Deep n v (heightOf (x .kind)) (keyOf (x .kind))

@@ -1,7 +1,32 @@
-// The calls
+// The calls that read: get info, space and read. Each answers for every image and every argument; a refusal has the number of document 01
+// and changes no byte. Its outcome is the one of the definition in model.
+ghost use mathlib.Core.Path.{_≡_};
+ghost use mathlib.Core.Bool.{true, false};
+ghost use Prim.Native.Nat.{ℕ, _+_, _-_, _*_, _≤_, _<_, min};
+ghost use lib.ListN.{length};
+ghost use Rattle.model.specs.Bytes.{view, word};
+ghost use Rattle.model.specs.Directory.{mapBlock, mapPlace};
+ghost use Rattle.model.specs.Names.{properPath};
+ghost use Rattle.model.specs.Calls.{target};
+ghost use Rattle.model.specs.Sound.{sound};
+ghost use Rattle.model.specs.Info.{volumeInfo};
+ghost use Rattle.model.specs.Answers.{Reads};
+ghost use Rattle.calls.specs.Opened.{openedAt, told};
+ghost use Rattle.calls.specs.Reading.{heightOf, isFolder, Readable, entryRead};
+
+use directory::Looked;
 use model::Entry;
+use model::Info;
+use model::Kind;
 use model::Place;
 use model::Refusal;
+use model::Stamp;
+use model::Transfer;
+
+const MAP_BLOCK: usize = 6;
+
+// Where the volume's header begins: slot 1 of block 2.
+const VOLUME_HEADER: usize = 1028;
 
 // What an image is: a sound volume of so many blocks, or refused.
 pub enum Volume {
@@ -14,4 +39,113 @@ pub enum Opened {
     Volume(usize),
     Entry(usize, Place, Entry),
     Refused(Refusal),
+}
+
+// $45, $44 and $46: what a proper path leads to on a sound volume.
+fn opened_at(img: &[u8], n: usize, path: &[u8]) -> Opened
+    requires { ⌜ (n ≤ 65535) × (length (now img) ≡ n * 512) × (sound n (view (now img)) ≡ true) ⌝ }
+    requires { ⌜ properPath (view (now path)) (length (now path)) ≡ true ⌝ }
+    ensures { λ r. ⌜ r ≡ openedAt n (view (now (img .entry))) (target (view (now (img .entry))) (view (now (path .entry))) (length (now (path .entry)))) ⌝ }
+{
+    match directory::lookup(img, n, path) {
+        Looked::NoVolume => Opened::Refused(Refusal::NoVolume),
+        Looked::NoDirectory => Opened::Refused(Refusal::NoDirectory),
+        Looked::Missing(_) => Opened::Refused(Refusal::NotFound),
+        Looked::There(_, place, entry) => Opened::Entry(n, place, entry),
+        Looked::Volume => Opened::Volume(n),
+    }
+}
+
+// What get info tells of an entry.
+fn entry_info(entry: Entry) -> Info
+    ensures { λ r. ⌜ r ≡ told entry ⌝ }
+{
+    let kind = entry.kind;
+    let created = entry.created;
+    let modified = entry.modified;
+    Info {
+        kind: model::kind_number(kind),
+        ftype: entry.ftype,
+        access: entry.access,
+        aux: entry.aux,
+        used: entry.used,
+        eof: entry.eof,
+        created,
+        modified,
+    }
+}
+
+fn half(img: &[u8], at: usize) -> u16
+    requires { ⌜ at + 1 < length (now img) ⌝ }
+    ensures { λ r. ⌜ r ≡ word (view (now (img .entry))) at ⌝ }
+{
+    store::get_word(img, at) as u16
+}
+
+// What get info tells of the volume.
+fn volume_info(img: &[u8], n: usize) -> Info
+    requires { ⌜ (16 ≤ n) × (n ≤ 65535) × (length (now img) ≡ n * 512) × (mapBlock (view (now img)) ≡ mapPlace) ⌝ }
+    ensures { λ r. ⌜ r ≡ volumeInfo n (view (now (img .entry))) ⌝ }
+{
+    let created = Stamp {
+        date: half(img, VOLUME_HEADER + 0x18),
+        time: half(img, VOLUME_HEADER + 0x1A),
+    };
+    let used = n - map::free_blocks(img, MAP_BLOCK, n);
+    Info {
+        kind: 0xF,
+        ftype: 0x0F,
+        access: img[VOLUME_HEADER + 0x1E],
+        aux: n as u16,
+        used: used as u16,
+        eof: 2048,
+        created,
+        modified: created,
+    }
+}
+
+// The height of a data file; 3 for a directory.
+fn height_of(kind: Kind) -> usize
+    ensures { λ r. ⌜ r ≡ heightOf kind ⌝ }
+{
+    match kind {
+        Kind::Seedling(_) => 0,
+        Kind::Sapling(_) => 1,
+        Kind::Tree(_) => 2,
+        Kind::Directory(_) => 3,
+    }
+}
+
+fn least(a: usize, b: usize) -> usize
+    ensures { λ r. ⌜ r ≡ min a b ⌝ }
+{
+    if a < b { a } else { b }
+}
+
+// $4B, $4E, $4D and $4C; then the bytes of the file from a position on, as many as the buffer takes.
+fn read_file(img: &[u8], n: usize, entry: Entry, position: usize, buffer: &mut [u8]) -> Transfer
+    requires { ⌜ (n ≤ 65535) × (length (now img) ≡ n * 512) × (isFolder (entry .kind) ≡ false → Readable n (view (now img)) entry) ⌝ }
+    ensures { λ r. ⌜ Reads (entryRead (view (now (img .entry))) entry position (view (now (buffer .entry))) (length (now (buffer .entry)))) (length (now (buffer .entry))) r (now (buffer .exit)) ⌝ }
+{
+    let kind = entry.kind;
+    let height = height_of(kind);
+    if height == 3 {
+        return Transfer::Refused(Refusal::BadKind);
+    }
+    if entry.access % 2 == 0 {
+        return Transfer::Refused(Refusal::Locked);
+    }
+    let eof = entry.eof as usize;
+    if eof < position {
+        return Transfer::Refused(Refusal::BadPosition);
+    }
+    let size = buffer.len();
+    if 1 <= size {
+        if position == eof {
+            return Transfer::Refused(Refusal::EndOfFile);
+        }
+    }
+    let count = least(size, eof - position);
+    file::read_bytes(img, n, height, model::key_of(kind) as usize, position, buffer, count);
+    Transfer::Moved(count)
 }
