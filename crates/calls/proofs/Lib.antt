@@ -4,3 +4,4 @@ pub mod OpenedLaws
 pub mod EntryLaws
 pub mod TellLaws
 pub mod ReadLaws
+pub mod CodeLaws

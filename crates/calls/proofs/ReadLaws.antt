@@ -54,7 +54,8 @@ read-no len v p k pos l r e =
 
 pub read-refused : (len : ℕ) (v p : Bytes) (k pos : ℕ) (l : List ℕ) (r : Refusal) → openedBy len v p k ≡ opened.Refused r
     → Reads (read len v p k pos (view l) (length l)) (length l) (transfer.Refused r) l
-read-refused len v p k pos l r e = read-no len v p k pos l r (read-number len v p k pos (length l) ∙ ap (λ o. openedOr o _) e)
+read-refused len v p k pos l r e =
+    read-no len v p k pos l r (read-number len v p k pos (length l) ∙ ap (λ o. openedOr o (first (rowsAt v pos (length l) (spot (target v p k))))) e)
 
 volume-number : (v : Bytes) (pos size d : ℕ) → first (rowsAt v pos size (spot (there d volume))) ≡ 0x4B
 unfolding first rowsAt spot sort
