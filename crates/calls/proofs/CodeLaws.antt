@@ -1,13 +1,13 @@
--- What the branches of the code answer: a lookup's answer as what a path opens, and the rows of read from $4B on, one by one.
+-- What the branches of the code answer: the rows $52 and $5A one by one, what a path opens, the rows of read from $4B on, and what is told of the volume.
 use Prim.Native.Nat.{ℕ, _+_, _-_, _/_, _%_, _≤_, _<_, min}
 use mathlib.Core.Path.{_≡_, refl, sym, ap, _∙_}
 use mathlib.Core.List.{List, [], _∷_}
-use mathlib.Core.Bool.{Bool, true, false, not}
+use mathlib.Core.Bool.{Bool, true, false, not, false≢true}
 use lib.Dec.{leb, ltb, eqb}
 use lib.ListN.{length}
 use native.Mathlib.Omega.{arith}
 use borrow.Author.Tests.{eq-eqb, ne-eqb, lt-ltb, le-ltb, le-leb, leb-true, eqb-true}
-use Rattle.model.specs.Bytes.{Bytes, view, word, paste, from, _and_}
+use Rattle.model.specs.Bytes.{Bytes, view, word, paste, from, within, _and_}
 use Rattle.model.specs.Map.{room}
 use Rattle.model.specs.Info.{volumeInfo, stampAt}
 use Rattle.model.specs.declared.Info.{Info}
@@ -15,11 +15,13 @@ use Rattle.model.specs.Directory.{at, volume, mapBlock, mapPlace, ftype, eof, T
 use Rattle.model.specs.File.{fileByte}
 use Rattle.model.specs.Kinds.{keyOf}
 use Rattle.model.specs.Refusals.{refusalNumber, Row, row, first, settle}
-use Rattle.model.specs.Calls.{allows, readBit}
+use Rattle.model.specs.Names.{properPath}
+use Rattle.model.specs.Sound.{wholeBlocks, prodos, sound}
+use Rattle.model.specs.Calls.{total, target, allows, readBit}
 use Rattle.model.specs.Read.{Filled, filled}
 use Rattle.model.specs.Answers.{Reads}
 use Rattle.model.specs.declared.Refusal.{Refusal}
-use Rattle.model.specs.declared.Refusal.the-variants.{NoVolume, NoDirectory, NotFound}
+use Rattle.model.specs.declared.Refusal.the-variants.{NotProdos, NotSound, BadPath, NoVolume, NoDirectory, NotFound}
 use Rattle.model.specs.declared.Transfer.the-variants as transfer
 use Rattle.model.specs.declared.Entry.{Entry}
 use Rattle.model.specs.declared.Kind.{Kind}
@@ -30,10 +32,63 @@ use Rattle.directory.specs.Slots.{placeOf, entryOf}
 use Rattle.directory.specs.Lookup.{homeOf, lookedAs}
 use Rattle.directory.specs.declared.Looked.{Looked}
 use Rattle.directory.specs.declared.Looked.the-variants as looked
-use Rattle.calls.specs.Opened.{openedAt}
+use Rattle.calls.specs.Opened.{volumeIn, openedAt, openedOn, openedBy}
 use Rattle.calls.specs.Reading.{isFolder, heightOf, entryReadNumber, entryCount, entryRead}
+use Rattle.calls.specs.declared.Volume.{Volume}
+use Rattle.calls.specs.declared.Volume.the-variants as volumes
 use Rattle.calls.specs.declared.Opened.{Opened}
 use Rattle.calls.specs.declared.Opened.the-variants as opened
+
+-- the rows $52 and $5A one by one
+module _ (len : ℕ) (v : Bytes) where
+  abbrev chosen : Bool → Bool → Volume
+  chosen a b = elim a [ true ↦ elim b [ true ↦ volumes.Sound (total len) | false ↦ volumes.Refused NotSound ] | false ↦ volumes.Refused NotProdos ]
+
+  volume-as : (a b : Bool) → wholeBlocks len and prodos (total len) v ≡ a → sound (total len) v ≡ b → volumeIn len v ≡ chosen a b
+  unfolding volumeIn
+  volume-as a b e f = ap (λ x. chosen x (sound (total len) v)) e ∙ ap (chosen a) f
+
+  pub volume-unfit : (len % 512 ≡ 0 → 16 ≤ len / 512 → len / 512 ≤ 65535 → ⊥) → volumeIn len v ≡ volumes.Refused NotProdos
+  unfolding wholeBlocks within
+  volume-unfit h = volume-as false (sound (total len) v) (and-false (wholeBlocks len) (prodos (total len) v) (λ w p.
+    let t = and-true (eqb (len % 512) 0) (within 16 65535 (len / 512)) .0 w in
+    let u = and-true (leb 16 (len / 512)) (leb (len / 512) 65535) .0 (t .1) in
+    h (eqb-true (len % 512) 0 (t .0)) (leb-true 16 (len / 512) (u .0)) (leb-true (len / 512) 65535 (u .1)))) refl
+
+  pub volume-other : prodos (total len) v ≡ false → volumeIn len v ≡ volumes.Refused NotProdos
+  volume-other e =
+      volume-as false (sound (total len) v) (and-false (wholeBlocks len) (prodos (total len) v) (λ w p. false≢true (sym e ∙ p))) refl
+
+  pub whole : len % 512 ≡ 0 → 16 ≤ len / 512 → len / 512 ≤ 65535 → wholeBlocks len ≡ true
+  unfolding wholeBlocks within
+  whole r l m =
+      and-true (eqb (len % 512) 0) (within 16 65535 (len / 512)) .1
+      (eq-eqb (len % 512) 0 r, and-true (leb 16 (len / 512)) (leb (len / 512) 65535) .1 (le-leb 16 (len / 512) l, le-leb (len / 512) 65535 m))
+
+  pub volume-bad : wholeBlocks len ≡ true → prodos (total len) v ≡ true → sound (total len) v ≡ false → volumeIn len v ≡ volumes.Refused NotSound
+  volume-bad w p s = volume-as true false (and-true (wholeBlocks len) (prodos (total len) v) .1 (w, p)) s
+
+  pub volume-good : wholeBlocks len ≡ true → prodos (total len) v ≡ true → sound (total len) v ≡ true → volumeIn len v ≡ volumes.Sound (total len)
+  volume-good w p s = volume-as true true (and-true (wholeBlocks len) (prodos (total len) v) .1 (w, p)) s
+
+-- what a path opens, by what the image is
+module _ (len : ℕ) (v p : Bytes) (k : ℕ) where
+  pub opened-refused : (r : Refusal) → volumeIn len v ≡ volumes.Refused r → openedBy len v p k ≡ opened.Refused r
+  unfolding openedOn
+  opened-refused r e = ap (λ o. openedOn o v p k) e
+
+  abbrev passed : ℕ → Bool → Opened
+  passed n b = elim b [ true ↦ openedAt n v (target v p k) | false ↦ opened.Refused BadPath ]
+
+  opened-on : (n : ℕ) (b : Bool) → volumeIn len v ≡ volumes.Sound n → properPath p k ≡ b → openedBy len v p k ≡ passed n b
+  unfolding openedOn
+  opened-on n b e q = ap (λ o. openedOn o v p k) e ∙ ap (passed n) q
+
+  pub opened-bad : (n : ℕ) → volumeIn len v ≡ volumes.Sound n → properPath p k ≡ false → openedBy len v p k ≡ opened.Refused BadPath
+  opened-bad n e q = opened-on n false e q
+
+  pub opened-good : (n : ℕ) → volumeIn len v ≡ volumes.Sound n → properPath p k ≡ true → openedBy len v p k ≡ openedAt n v (target v p k)
+  opened-good n e q = opened-on n true e q
 
 -- what the code makes of a lookup's answer
 abbrev pub openedFrom : ℕ → Looked → Opened

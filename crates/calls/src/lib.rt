@@ -9,17 +9,20 @@ ghost use Rattle.model.specs.Directory.{mapBlock, mapPlace};
 ghost use Rattle.model.specs.Names.{properPath};
 ghost use Rattle.model.specs.Calls.{target};
 ghost use Rattle.model.specs.Sound.{sound};
-ghost use Rattle.model.specs.Info.{volumeInfo};
-ghost use Rattle.model.specs.Answers.{Reads};
-ghost use Rattle.calls.specs.Opened.{openedAt, told};
+ghost use Rattle.model.specs.Info.{volumeInfo, getInfo, space as spaceCall};
+ghost use Rattle.model.specs.Read.{read as readCall};
+ghost use Rattle.model.specs.Answers.{Reads, Tells, Measures};
+ghost use Rattle.calls.specs.Opened.{volumeIn, openedAt, openedBy, told};
 ghost use Rattle.calls.specs.Reading.{heightOf, isFolder, Readable, entryRead};
 
 use directory::Looked;
 use model::Entry;
 use model::Info;
+use model::InfoAnswer;
 use model::Kind;
 use model::Place;
 use model::Refusal;
+use model::SpaceAnswer;
 use model::Stamp;
 use model::Transfer;
 
@@ -41,6 +44,31 @@ pub enum Opened {
     Refused(Refusal),
 }
 
+// $52 and $5A: whether an image is a sound volume.
+fn volume_in(img: &[u8]) -> Volume
+    ensures { λ r. ⌜ r ≡ volumeIn (length (now (img .entry))) (view (now (img .entry))) ⌝ }
+{
+    let size = img.len();
+    if size % 512 != 0 {
+        return Volume::Refused(Refusal::NotProdos);
+    }
+    let n = size / 512;
+    if n < 16 {
+        return Volume::Refused(Refusal::NotProdos);
+    }
+    if 65535 < n {
+        return Volume::Refused(Refusal::NotProdos);
+    }
+    if !checks::is_prodos(img, n) {
+        return Volume::Refused(Refusal::NotProdos);
+    }
+    if sound::is_sound(img, n) {
+        Volume::Sound(n)
+    } else {
+        Volume::Refused(Refusal::NotSound)
+    }
+}
+
 // $45, $44 and $46: what a proper path leads to on a sound volume.
 fn opened_at(img: &[u8], n: usize, path: &[u8]) -> Opened
     requires { ⌜ (n ≤ 65535) × (length (now img) ≡ n * 512) × (sound n (view (now img)) ≡ true) ⌝ }
@@ -53,6 +81,35 @@ fn opened_at(img: &[u8], n: usize, path: &[u8]) -> Opened
         Looked::Missing(_) => Opened::Refused(Refusal::NotFound),
         Looked::There(_, place, entry) => Opened::Entry(n, place, entry),
         Looked::Volume => Opened::Volume(n),
+    }
+}
+
+// The refusals that every call with a path has, in their order, up to $46.
+pub fn opened_by(img: &[u8], path: &[u8]) -> Opened
+    ensures { λ r. ⌜ r ≡ openedBy (length (now (img .entry))) (view (now (img .entry))) (view (now (path .entry))) (length (now (path .entry))) ⌝ }
+{
+    match volume_in(img) {
+        Volume::Refused(why) => Opened::Refused(why),
+        Volume::Sound(n) => {
+            if names::is_proper_path(path) {
+                opened_at(img, n, path)
+            } else {
+                Opened::Refused(Refusal::BadPath)
+            }
+        }
+    }
+}
+
+// Space: total and free blocks.
+pub fn space(img: &[u8]) -> SpaceAnswer
+    ensures { λ r. ⌜ Measures (spaceCall (length (now (img .entry))) (view (now (img .entry)))) r ⌝ }
+{
+    match volume_in(img) {
+        Volume::Refused(why) => SpaceAnswer::Refused(why),
+        Volume::Sound(n) => SpaceAnswer::Blocks {
+            total: n as u16,
+            free: map::free_blocks(img, MAP_BLOCK, n) as u16,
+        },
     }
 }
 
@@ -104,6 +161,17 @@ fn volume_info(img: &[u8], n: usize) -> Info
     }
 }
 
+// Get info: of the entry that a path leads to, or of the volume.
+pub fn get_info(img: &[u8], path: &[u8]) -> InfoAnswer
+    ensures { λ r. ⌜ Tells (getInfo (length (now (img .entry))) (view (now (img .entry))) (view (now (path .entry))) (length (now (path .entry)))) r ⌝ }
+{
+    match opened_by(img, path) {
+        Opened::Refused(why) => InfoAnswer::Refused(why),
+        Opened::Volume(n) => InfoAnswer::Told(volume_info(img, n)),
+        Opened::Entry(_, _, entry) => InfoAnswer::Told(entry_info(entry)),
+    }
+}
+
 // The height of a data file; 3 for a directory.
 fn height_of(kind: Kind) -> usize
     ensures { λ r. ⌜ r ≡ heightOf kind ⌝ }
@@ -148,4 +216,15 @@ fn read_file(img: &[u8], n: usize, entry: Entry, position: usize, buffer: &mut [
     let count = least(size, eof - position);
     file::read_bytes(img, n, height, model::key_of(kind) as usize, position, buffer, count);
     Transfer::Moved(count)
+}
+
+// Read: into the buffer, from a position of the file that a path names.
+pub fn read(img: &[u8], path: &[u8], position: usize, buffer: &mut [u8]) -> Transfer
+    ensures { λ r. ⌜ Reads (readCall (length (now (img .entry))) (view (now (img .entry))) (view (now (path .entry))) (length (now (path .entry))) position (view (now (buffer .entry))) (length (now (buffer .entry)))) (length (now (buffer .entry))) r (now (buffer .exit)) ⌝ }
+{
+    match opened_by(img, path) {
+        Opened::Refused(why) => Transfer::Refused(why),
+        Opened::Volume(_) => Transfer::Refused(Refusal::BadKind),
+        Opened::Entry(n, _, entry) => read_file(img, n, entry, position, buffer),
+    }
 }
