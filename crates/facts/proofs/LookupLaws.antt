@@ -11,6 +11,7 @@ use Rattle.model.specs.Bytes.{Bytes, _and_}
 use Rattle.model.specs.Names.{Part, sameName}
 use Rattle.model.specs.Directory.{volume, kids, at, Sort, inactive, directory, improper, file, sort, isActive, isDirectory, seek, last, along, lookup, Target, noVolume, noDirectory, missing, there}
 use Rattle.model.specs.Sound.{sound}
+use Rattle.claims.proofs.TestLaws.{and-true}
 use Rattle.facts.specs.Reached.{Among, here, later, Met, top, down, Led, led-nowhere, led-astray, led-missing, led-there}
 use Rattle.facts.proofs.BlockLaws.{met-directory}
 
@@ -22,6 +23,15 @@ seek-among v p x (t ∷ ss) s e = go (isActive (sort v t) and sameName v (at t) 
     go : (b : Bool) → elim b as (λ _. Option ℕ) [ true ↦ some t | false ↦ seek v p x ss ] ≡ some s → (seek v p x ss ≡ some s → Among s ss) → Among s (t ∷ ss)
     go true q r = let z : t ≡ s = cc in rw z here
     go false q r = later (r q)
+
+pub seek-active : (v p : Bytes) (x : Part) (ss : List ℕ) (s : ℕ) → seek v p x ss ≡ some s → isActive (sort v s) ≡ true
+unfolding seek
+seek-active v p x [] s e = let z : _≡_ {A = ℕ} 0 1 = cc in absurd (omega arith)
+seek-active v p x (t ∷ ss) s e = go (isActive (sort v t) and sameName v (at t) p x) refl e (seek-active v p x ss s)
+  where
+    go : (b : Bool) → isActive (sort v t) and sameName v (at t) p x ≡ b → elim b as (λ _. Option ℕ) [ true ↦ some t | false ↦ seek v p x ss ] ≡ some s → (seek v p x ss ≡ some s → isActive (sort v s) ≡ true) → isActive (sort v s) ≡ true
+    go true h q r = let z : t ≡ s = cc in rw (← z) (and-true (isActive (sort v t)) (sameName v (at t) p x) .0 h .0)
+    go false h q r = r q
 
 pub directory-sort : (K : Sort) → isDirectory K ≡ true → K ≡ directory
 directory-sort inactive e = let z : _≡_ {A = ℕ} 0 1 = cc in absurd (omega arith)
@@ -47,7 +57,7 @@ along-led n v p l e d x [] h m o = go (seek v p x (kids v d)) refl
   where
     go : (r : Option ℕ) → seek v p x (kids v d) ≡ r → Led v (last r d)
     go none q = led-missing m o
-    go (some s) q = led-there m o (met-kid n h m o (seek-among v p x (kids v d) s q) .1)
+    go (some s) q = led-there m o (met-kid n h m o (seek-among v p x (kids v d) s q) .1) (seek-active v p x (kids v d) s q)
 along-led n v p l e d x (y ∷ r) h m o = go (seek v p x (kids v d)) refl (λ k s. along-led n v p k d s y r h)
   where
     step : (s : ℕ) → Among s (kids v d) → ((k s : ℕ) → Met v k d s → sort v s ≡ directory → Led v (along v p s (y ∷ r))) → (b : Bool) → isDirectory (sort v s) ≡ b → Led v (elim b as (λ _. Target) [ true ↦ along v p s (y ∷ r) | false ↦ noDirectory ])
@@ -64,7 +74,7 @@ lookup-led n v p [] h = led-nowhere
 lookup-led n v p (x ∷ xs) h = go (sameName v (at volume) p x) xs
   where
     rest : (xs : List Part) → Led v (along v p volume xs)
-    rest [] = led-there top (volume-directory v) top
+    rest [] = led-there top (volume-directory v) top (rw (volume-directory v) refl)
     rest (y ∷ ys) = along-led n v p _ _ volume y ys h top (volume-directory v)
 
     go : (b : Bool) (xs : List Part) → Led v (elim b as (λ _. Target) [ true ↦ along v p volume xs | false ↦ noVolume ])

@@ -1,9 +1,10 @@
 -- The slots that the walk of a volume meets, as a relation, and lists of blocks that lie on the volume.
 use Prim.Native.Nat.{ℕ, zero, suc, _<_}
 use mathlib.Core.List.{List, [], _∷_}
+use mathlib.Core.Bool.{true}
 use mathlib.Core.Path.{_≡_}
 use Rattle.model.specs.Bytes.{Bytes}
-use Rattle.model.specs.Directory.{volume, kids, directory, sort, Target, noVolume, noDirectory, missing, there}
+use Rattle.model.specs.Directory.{volume, kids, directory, sort, isActive, Target, noVolume, noDirectory, missing, there}
 use Rattle.model.specs.File.{pointer}
 use Rattle.model.specs.Walk.{levelMost}
 
@@ -32,4 +33,4 @@ pub data Led (v : Bytes) : Target → Type 0 where
   led-nowhere : Led v noVolume
   led-astray : Led v noDirectory
   led-missing : {l e d : ℕ} → Met v l e d → sort v d ≡ directory → Led v (missing d)
-  led-there : {l k e d s : ℕ} → Met v k e d → sort v d ≡ directory → Met v l d s → Led v (there d s)
+  led-there : {l k e d s : ℕ} → Met v k e d → sort v d ≡ directory → Met v l d s → isActive (sort v s) ≡ true → Led v (there d s)

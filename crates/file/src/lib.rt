@@ -71,7 +71,7 @@ pub fn read_bytes(
     count: usize,
 )
     requires { ⌜ (n ≤ 65535) × (length (now img) ≡ n * 512) × (height < 3) × Deep n (view (now img)) height key ⌝ }
-    requires { ⌜ (count ≤ length (now buffer)) × (position + count ≤ 16777215) ⌝ }
+    requires { ⌜ (count ≤ length (now buffer)) × (position + count ≤ 4294967295) ⌝ }
     ensures { λ _. ⌜ view (now (buffer .exit)) ≡ paste (view (now (buffer .entry))) 0 count (from (fileByte (view (now (img .entry))) height key) position) ⌝ }
 {
     let mut done: usize = 0;

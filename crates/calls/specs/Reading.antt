@@ -1,0 +1,52 @@
+-- Reading a file by its decoded entry.
+use Prim.Native.Nat.{ℕ, _-_, _<_, min}
+use mathlib.Core.List.{List, [], _∷_}
+use mathlib.Core.Bool.{Bool, true, false, not}
+use lib.Dec.{leb, ltb, eqb}
+use Rattle.model.specs.Bytes.{Bytes, paste, from, _and_}
+use Rattle.model.specs.Kinds.{keyOf}
+use Rattle.model.specs.File.{fileByte}
+use Rattle.model.specs.Refusals.{row, first, Outcome, settle}
+use Rattle.model.specs.Calls.{allows, readBit}
+use Rattle.model.specs.Read.{Filled, filled}
+use Rattle.facts.specs.Reached.{Deep}
+use Rattle.model.specs.declared.Entry.{Entry}
+use Rattle.model.specs.declared.Kind.{Kind}
+use Rattle.model.specs.declared.Kind.the-variants.{Seedling, Sapling, Tree, Directory}
+
+abbrev pub isFolder : Kind → Bool
+isFolder (Seedling k) = false
+isFolder (Sapling k) = false
+isFolder (Tree k) = false
+isFolder (Directory k) = true
+
+-- the height of a data file; 3 for a directory, which has none
+abbrev pub heightOf : Kind → ℕ
+heightOf (Seedling k) = 0
+heightOf (Sapling k) = 1
+heightOf (Tree k) = 2
+heightOf (Directory k) = 3
+
+-- the rows from $4B on
+unfoldable pub entryReadNumber : Entry → ℕ → ℕ → ℕ
+entryReadNumber x pos size =
+    first
+    (row (isFolder (x .kind)) 0x4B
+    ∷ row (not (allows (x .access) readBit)) 0x4E
+    ∷ row (ltb (x .eof) pos) 0x4D
+    ∷ row (leb 1 size and eqb pos (x .eof)) 0x4C
+    ∷ [])
+
+abbrev pub entryCount : Entry → ℕ → ℕ → ℕ
+entryCount x pos size = min size (x .eof - pos)
+
+unfoldable pub entryRead : Bytes → Entry → ℕ → Bytes → ℕ → Outcome Filled
+entryRead v x pos buffer size =
+    settle (entryReadNumber x pos size) (filled 0 buffer) v
+    (filled (entryCount x pos size) (paste buffer 0 (entryCount x pos size) (from (fileByte v (heightOf (x .kind)) (keyOf (x .kind))) pos)))
+    v
+
+-- what a data file's entry gives on a sound volume of n blocks
+pub record Readable (n : ℕ) (v : Bytes) (x : Entry) : Type 0 where
+  pub low : heightOf (x .kind) < 3
+  pub backed : Deep n v (heightOf (x .kind)) (keyOf (x .kind))

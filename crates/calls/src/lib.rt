@@ -1,0 +1,230 @@
+// The calls that read: get info, space and read. Each answers for every image and every argument; a refusal has the number of document 01
+// and changes no byte. Its outcome is the one of the definition in model.
+ghost use mathlib.Core.Path.{_≡_};
+ghost use mathlib.Core.Bool.{true, false};
+ghost use Prim.Native.Nat.{ℕ, _+_, _-_, _*_, _≤_, _<_, min};
+ghost use lib.ListN.{length};
+ghost use Rattle.model.specs.Bytes.{view, word};
+ghost use Rattle.model.specs.Directory.{mapBlock, mapPlace};
+ghost use Rattle.model.specs.Names.{properPath};
+ghost use Rattle.model.specs.Calls.{target};
+ghost use Rattle.model.specs.Sound.{sound};
+ghost use Rattle.model.specs.Info.{volumeInfo, getInfo, space as spaceCall};
+ghost use Rattle.model.specs.Read.{read as readCall};
+ghost use Rattle.model.specs.Answers.{Reads, Tells, Measures};
+ghost use Rattle.calls.specs.Opened.{volumeIn, openedAt, openedBy, told};
+ghost use Rattle.calls.specs.Reading.{heightOf, isFolder, Readable, entryRead};
+
+use directory::Looked;
+use model::Entry;
+use model::Info;
+use model::InfoAnswer;
+use model::Kind;
+use model::Place;
+use model::Refusal;
+use model::SpaceAnswer;
+use model::Stamp;
+use model::Transfer;
+
+const MAP_BLOCK: usize = 6;
+
+// Where the volume's header begins: slot 1 of block 2.
+const VOLUME_HEADER: usize = 1028;
+
+// What an image is: a sound volume of so many blocks, or refused.
+pub enum Volume {
+    Sound(usize),
+    Refused(Refusal),
+}
+
+// What a path leads to, with the number of blocks of its volume; or why it leads nowhere.
+pub enum Opened {
+    Volume(usize),
+    Entry(usize, Place, Entry),
+    Refused(Refusal),
+}
+
+// $52 and $5A: whether an image is a sound volume.
+fn volume_in(img: &[u8]) -> Volume
+    ensures { λ r. ⌜ r ≡ volumeIn (length (now (img .entry))) (view (now (img .entry))) ⌝ }
+{
+    let size = img.len();
+    if size % 512 != 0 {
+        return Volume::Refused(Refusal::NotProdos);
+    }
+    let n = size / 512;
+    if n < 16 {
+        return Volume::Refused(Refusal::NotProdos);
+    }
+    if 65535 < n {
+        return Volume::Refused(Refusal::NotProdos);
+    }
+    if !checks::is_prodos(img, n) {
+        return Volume::Refused(Refusal::NotProdos);
+    }
+    if sound::is_sound(img, n) {
+        Volume::Sound(n)
+    } else {
+        Volume::Refused(Refusal::NotSound)
+    }
+}
+
+// $45, $44 and $46: what a proper path leads to on a sound volume.
+fn opened_at(img: &[u8], n: usize, path: &[u8]) -> Opened
+    requires { ⌜ (n ≤ 65535) × (length (now img) ≡ n * 512) × (sound n (view (now img)) ≡ true) ⌝ }
+    requires { ⌜ properPath (view (now path)) (length (now path)) ≡ true ⌝ }
+    ensures { λ r. ⌜ r ≡ openedAt n (view (now (img .entry))) (target (view (now (img .entry))) (view (now (path .entry))) (length (now (path .entry)))) ⌝ }
+{
+    match directory::lookup(img, n, path) {
+        Looked::NoVolume => Opened::Refused(Refusal::NoVolume),
+        Looked::NoDirectory => Opened::Refused(Refusal::NoDirectory),
+        Looked::Missing(_) => Opened::Refused(Refusal::NotFound),
+        Looked::There(_, place, entry) => Opened::Entry(n, place, entry),
+        Looked::Volume => Opened::Volume(n),
+    }
+}
+
+// The refusals that every call with a path has, in their order, up to $46.
+pub fn opened_by(img: &[u8], path: &[u8]) -> Opened
+    ensures { λ r. ⌜ r ≡ openedBy (length (now (img .entry))) (view (now (img .entry))) (view (now (path .entry))) (length (now (path .entry))) ⌝ }
+{
+    match volume_in(img) {
+        Volume::Refused(why) => Opened::Refused(why),
+        Volume::Sound(n) => {
+            if names::is_proper_path(path) {
+                opened_at(img, n, path)
+            } else {
+                Opened::Refused(Refusal::BadPath)
+            }
+        }
+    }
+}
+
+// Space: total and free blocks.
+pub fn space(img: &[u8]) -> SpaceAnswer
+    ensures { λ r. ⌜ Measures (spaceCall (length (now (img .entry))) (view (now (img .entry)))) r ⌝ }
+{
+    match volume_in(img) {
+        Volume::Refused(why) => SpaceAnswer::Refused(why),
+        Volume::Sound(n) => SpaceAnswer::Blocks {
+            total: n as u16,
+            free: map::free_blocks(img, MAP_BLOCK, n) as u16,
+        },
+    }
+}
+
+// What get info tells of an entry.
+fn entry_info(entry: Entry) -> Info
+    ensures { λ r. ⌜ r ≡ told entry ⌝ }
+{
+    let kind = entry.kind;
+    let created = entry.created;
+    let modified = entry.modified;
+    Info {
+        kind: model::kind_number(kind),
+        ftype: entry.ftype,
+        access: entry.access,
+        aux: entry.aux,
+        used: entry.used,
+        eof: entry.eof,
+        created,
+        modified,
+    }
+}
+
+fn half(img: &[u8], at: usize) -> u16
+    requires { ⌜ at + 1 < length (now img) ⌝ }
+    ensures { λ r. ⌜ r ≡ word (view (now (img .entry))) at ⌝ }
+{
+    store::get_word(img, at) as u16
+}
+
+// What get info tells of the volume.
+fn volume_info(img: &[u8], n: usize) -> Info
+    requires { ⌜ (16 ≤ n) × (n ≤ 65535) × (length (now img) ≡ n * 512) × (mapBlock (view (now img)) ≡ mapPlace) ⌝ }
+    ensures { λ r. ⌜ r ≡ volumeInfo n (view (now (img .entry))) ⌝ }
+{
+    let created = Stamp {
+        date: half(img, VOLUME_HEADER + 0x18),
+        time: half(img, VOLUME_HEADER + 0x1A),
+    };
+    let used = n - map::free_blocks(img, MAP_BLOCK, n);
+    Info {
+        kind: 0xF,
+        ftype: 0x0F,
+        access: img[VOLUME_HEADER + 0x1E],
+        aux: n as u16,
+        used: used as u16,
+        eof: 2048,
+        created,
+        modified: created,
+    }
+}
+
+// Get info: of the entry that a path leads to, or of the volume.
+pub fn get_info(img: &[u8], path: &[u8]) -> InfoAnswer
+    ensures { λ r. ⌜ Tells (getInfo (length (now (img .entry))) (view (now (img .entry))) (view (now (path .entry))) (length (now (path .entry)))) r ⌝ }
+{
+    match opened_by(img, path) {
+        Opened::Refused(why) => InfoAnswer::Refused(why),
+        Opened::Volume(n) => InfoAnswer::Told(volume_info(img, n)),
+        Opened::Entry(_, _, entry) => InfoAnswer::Told(entry_info(entry)),
+    }
+}
+
+// The height of a data file; 3 for a directory.
+fn height_of(kind: Kind) -> usize
+    ensures { λ r. ⌜ r ≡ heightOf kind ⌝ }
+{
+    match kind {
+        Kind::Seedling(_) => 0,
+        Kind::Sapling(_) => 1,
+        Kind::Tree(_) => 2,
+        Kind::Directory(_) => 3,
+    }
+}
+
+fn least(a: usize, b: usize) -> usize
+    ensures { λ r. ⌜ r ≡ min a b ⌝ }
+{
+    if a < b { a } else { b }
+}
+
+// $4B, $4E, $4D and $4C; then the bytes of the file from a position on, as many as the buffer takes.
+fn read_file(img: &[u8], n: usize, entry: Entry, position: usize, buffer: &mut [u8]) -> Transfer
+    requires { ⌜ (n ≤ 65535) × (length (now img) ≡ n * 512) × (isFolder (entry .kind) ≡ false → Readable n (view (now img)) entry) ⌝ }
+    ensures { λ r. ⌜ Reads (entryRead (view (now (img .entry))) entry position (view (now (buffer .entry))) (length (now (buffer .entry)))) (length (now (buffer .entry))) r (now (buffer .exit)) ⌝ }
+{
+    let kind = entry.kind;
+    let height = height_of(kind);
+    if height == 3 {
+        return Transfer::Refused(Refusal::BadKind);
+    }
+    if entry.access % 2 == 0 {
+        return Transfer::Refused(Refusal::Locked);
+    }
+    let eof = entry.eof as usize;
+    if eof < position {
+        return Transfer::Refused(Refusal::BadPosition);
+    }
+    let size = buffer.len();
+    if 1 <= size {
+        if position == eof {
+            return Transfer::Refused(Refusal::EndOfFile);
+        }
+    }
+    let count = least(size, eof - position);
+    file::read_bytes(img, n, height, model::key_of(kind) as usize, position, buffer, count);
+    Transfer::Moved(count)
+}
+
+// Read: into the buffer, from a position of the file that a path names.
+pub fn read(img: &[u8], path: &[u8], position: usize, buffer: &mut [u8]) -> Transfer
+    ensures { λ r. ⌜ Reads (readCall (length (now (img .entry))) (view (now (img .entry))) (view (now (path .entry))) (length (now (path .entry))) position (view (now (buffer .entry))) (length (now (buffer .entry)))) (length (now (buffer .entry))) r (now (buffer .exit)) ⌝ }
+{
+    match opened_by(img, path) {
+        Opened::Refused(why) => Transfer::Refused(why),
+        Opened::Volume(_) => Transfer::Refused(Refusal::BadKind),
+        Opened::Entry(n, _, entry) => read_file(img, n, entry, position, buffer),
+    }
+}
