@@ -1,10 +1,11 @@
 // Bytes, numbers and runs in a slice, read and written: what every other crate does to an image.
 // Each contract says the whole slice afterwards, as bytes by address (specs/Bytes.antt of model).
 ghost use mathlib.Core.Path.{_≡_};
-ghost use Prim.Native.Nat.{_+_, _≤_, _<_};
+ghost use Prim.Native.Nat.{_+_, _*_, _≤_, _<_};
 ghost use lib.ListN.{length};
 ghost use Rattle.model.specs.Bytes.{view, put, paste, from, clear, putWord, putLong, word, long, equalBytes};
 ghost use Rattle.model.specs.Map.{allZero};
+ghost use Rattle.model.specs.File.{pointer};
 
 pub fn get_word(img: &[u8], at: usize) -> usize
     requires { ⌜ at + 1 < length (now img) ⌝ }
@@ -24,6 +25,17 @@ pub fn get_long(img: &[u8], at: usize) -> usize
     let low = get_word(img, at);
     let high = img[at + 2] as usize;
     low + 65536 * high
+}
+
+// Pointer i of the index block b: low bytes in the block's first half, high bytes in its second.
+pub fn get_pointer(img: &[u8], b: usize, i: usize) -> usize
+    requires { ⌜ (i < 256) × (b * 512 + 512 ≤ length (now img)) ⌝ }
+    ensures { λ r. ⌜ r ≡ pointer (view (now (img .entry))) b i ⌝ }
+    ensures { λ r. ⌜ r < 65536 ⌝ }
+{
+    let of_first = img[b * 512 + i] as usize;
+    let of_second = img[b * 512 + 256 + i] as usize;
+    of_first + 256 * of_second
 }
 
 pub fn put_byte(img: &mut [u8], at: usize, v: u8)

@@ -1,0 +1,96 @@
+-- The claims of an entry by the values that its slot has, and of all that is below it, for the functions that take them one by one.
+use Prim.{Unit}
+use Prim.Native.Nat.{ℕ, zero, suc, _≤_, _<_}
+use mathlib.Core.Path.{_≡_}
+use mathlib.Core.List.{List, [], _∷_, _++_}
+use mathlib.Core.Bool.{Bool, true, false, not}
+use lib.Dec.{eqb}
+use lib.ListN.{length}
+use Rattle.model.specs.Bytes.{Bytes, gather}
+use Rattle.model.specs.Directory.{directoryType, volume, sort, activeCount, key, at, chain, kids, active}
+use Rattle.model.specs.File.{heightFor, span, nodes}
+use Rattle.model.specs.Sound.{twins, topFaults}
+use Rattle.model.specs.declared.Kind.the-variants.{Directory}
+use Rattle.model.specs.declared.Entry.{Entry}
+use Rattle.claims.specs.Claims.{Claim, must, chainClaims, treeClaims, claimsOf}
+use Rattle.checks.specs.Inside.{Inside, Readable}
+use Rattle.directory.specs.Slots.{entryOf, slotSays}
+use Rattle.directory.specs.declared.Slot.the-variants.{Active}
+use Rattle.directory.specs.Search.{listed}
+use Rattle.sound.specs.declared.Own.{Own}
+use Rattle.sound.specs.declared.Own.the-variants.{Wrong, Whole, Inner}
+
+-- a volume's image and the room for the claimed blocks
+abbrev pub Ready : ℕ → List ℕ → List ℕ → Type 0
+Ready n img seen = (16 ≤ n) × Readable n img × (length seen ≡ 8192)
+
+-- what stands at a place: the volume is a directory with its own key, length, type and EOF
+abbrev pub volumeEntry : Entry
+volumeEntry =
+    record {
+      kind = Directory 2;
+      ftype = 15;
+      access = 0;
+      aux = 0;
+      used = 4;
+      eof = 2048;
+      created = record { date = 0; time = 0 };
+      modified = record { date = 0; time = 0 };
+    }
+
+unfoldable pub standing : Bytes → ℕ → Entry
+standing v s = elim (eqb s volume) [ true ↦ volumeEntry | false ↦ entryOf v (at s) ]
+
+abbrev pub Stands : Bytes → ℕ → Entry → Type 0
+Stands v s e = slotSays (sort v s) (standing v s) ≡ Active e
+
+-- k is the key of what stands at s, and e says what stands there
+abbrev pub KeyAt : Bytes → ℕ → ℕ → Type 0
+KeyAt v s k = k ≡ key v s
+
+abbrev pub Describes : Bytes → ℕ → ℕ → Entry → Type 0
+Describes v s k e = KeyAt v s k × (e ≡ standing v s)
+
+-- a data file of height h with this type, EOF, key and number of blocks used
+unfoldable pub fileWork : Bytes → ℕ → ℕ → ℕ → ℕ → ℕ → List Claim
+fileWork v h type e k u =
+    must (not (eqb type directoryType))
+    ∷ must (eqb h (heightFor e))
+    ∷ treeClaims v (span e) h 0 k
+    ++ (must (eqb u (length (nodes v h 0 k))) ∷ [])
+
+-- the directory at s, of u blocks from k on: its chain, its header and its names
+unfoldable pub chainWork : Bytes → ℕ → ℕ → ℕ → List Claim
+chainWork v s k u =
+    chainClaims v 0 k u
+    ++ (must (eqb (topFaults v s) 0)
+    ∷ must (eqb (activeCount v k) (active v (listed v k u)))
+    ∷ must (eqb (twins v (listed v k u)) 0)
+    ∷ [])
+
+-- the slot s of a directory with the key k, with so many levels left, and all that is below it
+unfoldable pub entryWork : Bytes → ℕ → ℕ → ℕ → List Claim
+entryWork v zero k s = claimsOf (sort v s) v 0 k s
+entryWork v (suc l) k s = claimsOf (sort v s) v (suc l) k s ++ gather (entryWork v l (key v s)) (kids v s)
+
+-- the entries of a directory of u blocks from k on, and all that is below them
+abbrev pub listWork : Bytes → ℕ → ℕ → ℕ → List Claim
+listWork v l k u = gather (entryWork v l k) (listed v k u)
+
+-- whether what a slot claims by itself was claimed, and what then is below it: nothing, or the u blocks of a directory from k on
+abbrev pub rightOf : Own → Bool
+rightOf Wrong = false
+rightOf Whole = true
+rightOf (Inner k u) = true
+
+pub record Opened (n : ℕ) (v : Bytes) (l s k u : ℕ) : Type 0 where
+  pub below : kids v s ≡ listed v k u
+  pub start : k ≡ key v s
+  pub some : 0 < u
+  pub inside : Inside n (chain v k u)
+  pub level : 0 < l
+
+abbrev pub Leads : ℕ → Bytes → ℕ → ℕ → Own → Type 0
+Leads n v l s Wrong = Unit {0}
+Leads n v l s Whole = kids v s ≡ []
+Leads n v l s (Inner k u) = Opened n v l s k u
