@@ -45,7 +45,7 @@ pub enum Opened {
 }
 
 // $52 and $5A: whether an image is a sound volume.
-fn volume_in(img: &[u8]) -> Volume
+pub fn volume_in(img: &[u8]) -> Volume
     ensures { λ r. ⌜ r ≡ volumeIn (length (now (img .entry))) (view (now (img .entry))) ⌝ }
 {
     let size = img.len();
