@@ -414,37 +414,37 @@ fn unlike_below_1024(img: &[u8], n: usize, key: usize, used: usize) -> bool
     unlike_within_1024(img, n, key, used, &mut list, &mut x, &mut y)
 }
 
-// The same in scratch for fewer than 65536 entries.
-fn unlike_within_65536(
+// The same in scratch for fewer than 8192 entries.
+fn unlike_within_8192(
     img: &[u8],
     n: usize,
     key: usize,
     used: usize,
-    list: &mut [u32; 65536],
-    x: &mut [u32; 65536],
-    y: &mut [u32; 65536],
+    list: &mut [u32; 8192],
+    x: &mut [u32; 8192],
+    y: &mut [u32; 8192],
 ) -> bool
     requires { ⌜ Readable n (now img) × Inside n (chain (view (now img)) key used) ⌝ }
-    requires { ⌜ active (view (now img)) (drop 1 (slots (chain (view (now img)) key used))) < 65536 ⌝ }
+    requires { ⌜ active (view (now img)) (drop 1 (slots (chain (view (now img)) key used))) < 8192 ⌝ }
     ensures { λ r. ⌜ r ≡ eqb (twins (view (now (img .entry))) (drop 1 (slots (chain (view (now (img .entry))) key used)))) 0 ⌝ }
 {
     unlike_by_order(img, n, key, used, list, x, y)
 }
 
-// The same, with that scratch of its own: 768 KB of the stack.
-fn unlike_below_65536(img: &[u8], n: usize, key: usize, used: usize) -> bool
+// The same, with that scratch of its own: 96 KB of the stack, so little because a compiler may put it into each of the walk's 32 levels.
+fn unlike_below_8192(img: &[u8], n: usize, key: usize, used: usize) -> bool
     requires { ⌜ Readable n (now img) × Inside n (chain (view (now img)) key used) ⌝ }
-    requires { ⌜ active (view (now img)) (drop 1 (slots (chain (view (now img)) key used))) < 65536 ⌝ }
+    requires { ⌜ active (view (now img)) (drop 1 (slots (chain (view (now img)) key used))) < 8192 ⌝ }
     ensures { λ r. ⌜ r ≡ eqb (twins (view (now (img .entry))) (drop 1 (slots (chain (view (now (img .entry))) key used)))) 0 ⌝ }
 {
-    let mut list = [0u32; 65536];
-    let mut x = [0u32; 65536];
-    let mut y = [0u32; 65536];
-    unlike_within_65536(img, n, key, used, &mut list, &mut x, &mut y)
+    let mut list = [0u32; 8192];
+    let mut x = [0u32; 8192];
+    let mut y = [0u32; 8192];
+    unlike_within_8192(img, n, key, used, &mut list, &mut x, &mut y)
 }
 
-// No two active entries of a directory of `used` blocks have one name. Few are compared each with each, more are put in order.
-// The first return and the last are never met where `used` blocks were claimed, and the header's count, a word, was compared before.
+// No two active entries of a directory of `used` blocks have one name. Few are compared each with each, more are put in order;
+// a directory of 8,192 entries or more is compared each with each again, for want of scratch.
 pub fn unlike(img: &[u8], n: usize, key: usize, used: usize) -> bool
     requires { ⌜ Readable n (now img) ⌝ }
     requires { ⌜ Inside n (chain (view (now img)) key used) ⌝ }
@@ -460,8 +460,8 @@ pub fn unlike(img: &[u8], n: usize, key: usize, used: usize) -> bool
     if count < 1024 {
         return unlike_below_1024(img, n, key, used);
     }
-    if count < 65536 {
-        return unlike_below_65536(img, n, key, used);
+    if count < 8192 {
+        return unlike_below_8192(img, n, key, used);
     }
     each_with_each(img, n, key, used)
 }
