@@ -1,5 +1,5 @@
 -- What the branches of the code answer: the rows $52 and $5A one by one, what a path opens, the rows of read from $4B on, and what is told of the volume.
-use Prim.Native.Nat.{ℕ, _+_, _-_, _/_, _%_, _≤_, _<_, min}
+use Prim.Native.Nat.{ℕ, _-_, _/_, _%_, _≤_, _<_}
 use mathlib.Core.Path.{_≡_, refl, sym, ap, _∙_}
 use mathlib.Core.List.{List, [], _∷_}
 use mathlib.Core.Bool.{Bool, true, false, not, false≢true}
@@ -51,9 +51,9 @@ module _ (len : ℕ) (v : Bytes) where
   pub volume-unfit : (len % 512 ≡ 0 → 16 ≤ len / 512 → len / 512 ≤ 65535 → ⊥) → volumeIn len v ≡ volumes.Refused NotProdos
   unfolding wholeBlocks within
   volume-unfit h = volume-as false (sound (total len) v) (and-false (wholeBlocks len) (prodos (total len) v) (λ w p.
-    let t = and-true (eqb (len % 512) 0) (within 16 65535 (len / 512)) .0 w in
-    let u = and-true (leb 16 (len / 512)) (leb (len / 512) 65535) .0 (t .1) in
-    h (eqb-true (len % 512) 0 (t .0)) (leb-true 16 (len / 512) (u .0)) (leb-true (len / 512) 65535 (u .1)))) refl
+      let t = and-true (eqb (len % 512) 0) (within 16 65535 (len / 512)) .0 w in
+      let u = and-true (leb 16 (len / 512)) (leb (len / 512) 65535) .0 (t .1) in
+      h (eqb-true (len % 512) 0 (t .0)) (leb-true 16 (len / 512) (u .0)) (leb-true (len / 512) 65535 (u .1)))) refl
 
   pub volume-other : prodos (total len) v ≡ false → volumeIn len v ≡ volumes.Refused NotProdos
   volume-other e =
@@ -141,10 +141,6 @@ module _ (x : Entry) (pos size : ℕ) where
   abbrev lockRows : List Row
   lockRows = row (not (allows (x .access) readBit)) 0x4E ∷ farRows
 
-  pub number-folder : isFolder (x .kind) ≡ true → entryReadNumber x pos size ≡ 0x4B
-  unfolding entryReadNumber
-  number-folder e = first-applies (row (isFolder (x .kind)) 0x4B) lockRows e
-
   past-folder : isFolder (x .kind) ≡ false → entryReadNumber x pos size ≡ first lockRows
   unfolding entryReadNumber
   past-folder e = first-passes (row (isFolder (x .kind)) 0x4B) lockRows e
@@ -193,7 +189,7 @@ module _ (v : Bytes) (x : Entry) (pos : ℕ) (l : List ℕ) where
         said = sym e;
         moved = c ∙ sym (ap (λ f. f .moved) (s .0));
         size = n;
-        bytes = b ∙ ap (λ k. paste (view l) 0 k g) c ∙ sym (ap (λ f. f .buffer) (s .0))
+        bytes = b ∙ ap (λ k. paste (view l) 0 k g) c ∙ sym (ap (λ f. f .buffer) (s .0));
       }
 
 -- what get info tells of the volume
@@ -206,7 +202,7 @@ pub volume-told : (n : ℕ) (v : Bytes) (a d t r : ℕ) → a ≡ v 1058 → d �
       used = n - r;
       eof = 2048;
       created = record { date = d; time = t };
-      modified = record { date = d; time = t }
+      modified = record { date = d; time = t };
     }) (volumeInfo n v)
 unfolding volumeInfo ftype eof stampAt at
 volume-told n v a d t r ea ed et er m = rw (ea, ed, et, er, m) refl

@@ -1,16 +1,16 @@
 -- The entry that a path leads to on a sound volume: it is active and of one of the four kinds, and what its slot says is what the walk reads.
-use Prim.Native.Nat.{ℕ, zero, suc, _+_, _-_, _*_, _/_, _%_, _≤_, _<_}
-use mathlib.Core.Path.{_≡_, refl, sym, ap, _∙_}
+use Prim.Native.Nat.{ℕ, zero, suc, _+_, _/_, _≤_}
+use mathlib.Core.Path.{_≡_, refl, sym}
 use mathlib.Core.Bool.{Bool, true, false}
-use lib.Dec.{leb, eqb}
+use lib.Dec.{eqb}
 use native.Mathlib.Omega.{arith}
-use borrow.Author.Tests.{eqb-true, eqb-false, ne-eqb, eq-eqb, lt-leb}
+use borrow.Author.Tests.{eqb-true, ne-eqb, lt-leb}
 use Rattle.model.specs.Bytes.{Bytes, word, long}
 use Rattle.model.specs.Names.{parts}
-use Rattle.model.specs.Kinds.{kindNumber, keyOf}
-use Rattle.model.specs.Directory.{at, volume, Sort, inactive, directory, improper, file, sort, sortOf, isActive, isDirectory, field, ftype, key, used, eof, access, Target, there}
+use Rattle.model.specs.Kinds.{kindNumber}
+use Rattle.model.specs.Directory.{at, volume, Sort, directory, improper, sort, sortOf, isActive, field, ftype, eof, there}
 use Rattle.model.specs.Sound.{sound}
-use Rattle.model.specs.Calls.{total, target}
+use Rattle.model.specs.Calls.{target}
 use Rattle.facts.specs.Reached.{Met, Led, led-there}
 use Rattle.facts.proofs.LookupLaws.{lookup-led}
 use Rattle.facts.proofs.SlotLaws.{improper-fault}

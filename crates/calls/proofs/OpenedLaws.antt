@@ -1,7 +1,7 @@
 -- The rows of the table up to $46 give the number of what a path opens.
 use Prim.Native.Nat.{ℕ}
-use mathlib.Core.Path.{_≡_, refl, sym, ap, _∙_}
-use mathlib.Core.List.{List, [], _∷_}
+use mathlib.Core.Path.{_≡_, refl, ap, _∙_}
+use mathlib.Core.List.{List, _∷_}
 use mathlib.Core.Bool.{Bool, true, false, not}
 use lib.Dec.{eqb}
 use borrow.Author.Tests.{eqb-true, eqb-false}
@@ -10,7 +10,7 @@ use Rattle.model.specs.Names.{properPath}
 use Rattle.directory.specs.Slots.{placeOf, entryOf}
 use Rattle.model.specs.Directory.{at, volume, Target, noVolume, noDirectory, missing, there}
 use Rattle.model.specs.Sound.{wholeBlocks, prodos, sound}
-use Rattle.model.specs.Refusals.{refusalNumber, Row, row, first}
+use Rattle.model.specs.Refusals.{refusalNumber, Row, first}
 use Rattle.model.specs.Calls.{total, target, notProdos, notSound, badPath, notVolume, notDirectory, notFound, isNoVolume, isNoDirectory, isMissing}
 use Rattle.model.proofs.RefusalLaws.{first-applies, first-passes}
 use Rattle.model.specs.declared.Refusal.{Refusal}
@@ -50,9 +50,11 @@ opened-first len v p k rest = volume-first len v _ ∙ after (volumeIn len v)
   where
     rows : List Row
     rows = notVolume (target v p k) ∷ notDirectory (target v p k) ∷ notFound (target v p k) ∷ rest
+
     path : (n : ℕ) (b : Bool) → properPath p k ≡ b → first (badPath p k ∷ rows) ≡ openedOr (elim b as (λ _. Opened) [ true ↦ openedAt n v (target v p k) | false ↦ opened.Refused BadPath ]) (first rest)
     path n true e = first-passes (badPath p k) rows (ap not e) ∙ target-first n v (target v p k) rest
     path n false e = first-applies (badPath p k) rows (ap not e)
+
     after : (o : Volume) → volumeOr o (first (badPath p k ∷ rows)) ≡ openedOr (openedOn o v p k) (first rest)
     after (volumes.Sound n) = path n (properPath p k) refl
     after (volumes.Refused r) = refl
@@ -72,19 +74,25 @@ seen len v p k = whole (wholeBlocks len and prodos (total len) v) (sound (total 
         → Seen len v p k (elim b as (λ _. Opened) [ true ↦ opened.Volume (total len) | false ↦ opened.Entry (total len) (placeOf s) (entryOf v (at s)) ])
     found true d s h t e q = on-volume d h (t ∙ ap (there d) (eqb-true s volume e))
     found false d s h t e q = on-entry d s h t (eqb-false s volume e)
+
     led : (t : Target) → Fits len v (total len) → target v p k ≡ t → openedBy len v p k ≡ openedAt (total len) v t → Seen len v p k (openedAt (total len) v t)
     led noVolume h e q = refused NoVolume q
     led noDirectory h e q = refused NoDirectory q
     led (missing d) h e q = refused NotFound q
     led (there d s) h e q = found (eqb s volume) d s h e refl q
+
     chosen : Bool → Bool → Volume
     chosen a b = elim a [ true ↦ elim b [ true ↦ volumes.Sound (total len) | false ↦ volumes.Refused NotSound ] | false ↦ volumes.Refused NotProdos ]
+
     as-volume : (a b : Bool) → wholeBlocks len and prodos (total len) v ≡ a → sound (total len) v ≡ b → volumeIn len v ≡ chosen a b
     as-volume a b e f = ap (λ x. chosen x (sound (total len) v)) e ∙ ap (chosen a) f
+
     passed : Bool → Opened
     passed c = elim c [ true ↦ openedAt (total len) v (target v p k) | false ↦ opened.Refused BadPath ]
+
     as-path : (c : Bool) → properPath p k ≡ c → openedOn (volumes.Sound (total len)) v p k ≡ passed c
     as-path c e = ap passed e
+
     whole : (a b c : Bool) → wholeBlocks len and prodos (total len) v ≡ a → sound (total len) v ≡ b → properPath p k ≡ c → Seen len v p k (openedBy len v p k)
     whole false b c e f g = let q : openedBy len v p k ≡ opened.Refused NotProdos = ap (λ o. openedOn o v p k) (as-volume false b e f) in rw q (refused NotProdos q)
     whole true false c e f g = let q : openedBy len v p k ≡ opened.Refused NotSound = ap (λ o. openedOn o v p k) (as-volume true false e f) in rw q (refused NotSound q)

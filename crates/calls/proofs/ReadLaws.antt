@@ -1,17 +1,17 @@
 -- What read answers, by what the path leads to.
-use Prim.Native.Nat.{ℕ, zero, suc, _+_, _-_, _*_, _/_, _%_, _≤_, _<_}
+use Prim.Native.Nat.{ℕ, zero, suc, _-_, _<_}
 use mathlib.Core.Path.{_≡_, refl, sym, ap, _∙_}
 use mathlib.Core.List.{List, [], _∷_}
 use mathlib.Core.Bool.{Bool, true, false, not}
 use lib.Dec.{leb, ltb, eqb}
 use lib.ListN.{length}
 use native.Mathlib.Omega.{arith}
-use Rattle.model.specs.Bytes.{Bytes, view, paste, from, word, long, _and_}
+use Rattle.model.specs.Bytes.{Bytes, view, paste, from, _and_}
 use Rattle.model.specs.Kinds.{kindNumber, keyOf, kindFor}
-use Rattle.model.specs.Directory.{at, volume, volumeBlock, Sort, inactive, directory, improper, file, sort, sortOf, isActive, isDirectory, key, eof, access, there}
+use Rattle.model.specs.Directory.{at, volume, volumeBlock, Sort, inactive, directory, improper, file, sort, isActive, isDirectory, key, eof, access, there}
 use Rattle.model.specs.File.{fileByte, content, height, heightFor}
 use Rattle.model.specs.Sound.{sound}
-use Rattle.model.specs.Refusals.{refusalNumber, Row, row, first, Outcome, settle}
+use Rattle.model.specs.Refusals.{refusalNumber, Row, row, first, settle}
 use Rattle.model.specs.Calls.{total, target, spot, allows, readBit, notData}
 use Rattle.model.specs.Read.{Filled, filled, toRead, filledFrom, readNumber, read}
 use Rattle.model.specs.Answers.{Reads}
@@ -21,11 +21,10 @@ use Rattle.model.specs.declared.Transfer.the-variants as transfer
 use Rattle.model.specs.declared.Entry.{Entry}
 use Rattle.model.specs.declared.Place.{Place}
 use Rattle.model.specs.declared.Kind.{Kind}
-use Rattle.model.specs.declared.Kind.the-variants.{Seedling, Sapling, Tree, Directory}
+use Rattle.model.specs.declared.Kind.the-variants.{Seedling, Sapling, Tree}
 use Rattle.model.proofs.RefusalLaws.{settle-refused, number-refuses, first-applies}
-use Rattle.facts.specs.Reached.{Deep}
-use Rattle.facts.proofs.BlockLaws.{FileFacts, met-file}
-use Rattle.directory.specs.Slots.{placeOf, kindOf, entryOf, entryWith}
+use Rattle.facts.proofs.BlockLaws.{met-file}
+use Rattle.directory.specs.Slots.{kindOf, entryOf, entryWith}
 use Rattle.calls.specs.Opened.{openedBy}
 use Rattle.calls.specs.Reading.{Readable, isFolder, heightOf, entryReadNumber, entryCount, entryRead}
 use Rattle.calls.specs.declared.Opened.{Opened}
@@ -67,6 +66,7 @@ read-volume len v p k pos n l e = go (openedBy len v p k) refl e (seen len v p k
   where
     number : (d : ℕ) → target v p k ≡ there d volume → first (rowsAt v pos (length l) (spot (target v p k))) ≡ 0x4B
     number d t = ap (λ t. first (rowsAt v pos (length l) (spot t))) t ∙ volume-number v pos (length l) d
+
     go : (o : Opened) → openedBy len v p k ≡ o → o ≡ opened.Volume n → Seen len v p k o → Reads (read len v p k pos (view l) (length l)) (length l) (transfer.Refused BadKind) l
     go o q z (refused r x) = let y : _≡_ {A = ℕ} 0 1 = cc in absurd (omega arith)
     go o q z (on-volume d f t) = read-no len v p k pos l BadKind (read-number len v p k pos (length l) ∙ ap (λ o. openedOr o (first (rowsAt v pos (length l) (spot (target v p k))))) q ∙ number d t)
@@ -104,7 +104,7 @@ height-small e = go (leb e 512) (leb e 131072)
     go false true = omega arith
     go false false = omega arith
 
-folder-number : (x : Entry) (pos size : ℕ) → isFolder (x .kind) ≡ true → entryReadNumber x pos size ≡ 0x4B
+pub folder-number : (x : Entry) (pos size : ℕ) → isFolder (x .kind) ≡ true → entryReadNumber x pos size ≡ 0x4B
 unfolding entryReadNumber
 folder-number x pos size e = first-applies (row (isFolder (x .kind)) 0x4B) _ e
 
@@ -163,8 +163,10 @@ module _ (n : ℕ) (v : Bytes) (d s : ℕ) (h : sound n v ≡ true) (w : Named v
     where
       x : Entry
       x = entryOf v (at s)
+
       new : Filled
       new = filled (entryCount x pos size) (paste buffer 0 (entryCount x pos size) (from (fileByte v (heightOf (x .kind)) (keyOf (x .kind))) pos))
+
       go : (b : Bool) → isFolder (x .kind) ≡ b → settle (first (rowsAt v pos size s)) (filled 0 buffer) v (filledFrom v s pos buffer size) v ≡ settle (entryReadNumber x pos size) (filled 0 buffer) v new v
       go true e =
           let q = folder-number x pos size e in
@@ -202,7 +204,7 @@ read-entry len v p k pos buffer size n s x e = go (openedBy len v p k) refl e (s
         let number : readNumber len v p k pos size (target v p k) ≡ first (rowsAt v pos size (spot (target v p k))) = read-number len v p k pos size ∙ ap (λ o. openedOr o (first (rowsAt v pos size (spot (target v p k))))) q in
         let spotted : spot (target v p k) ≡ y = unfold spot in ap spot t in
         let whole : read len v p k pos buffer size ≡ entryRead v (entryOf v (at y)) pos buffer size =
-          ap (λ j. settle j (filled 0 buffer) v (filledFrom v (spot (target v p k)) pos buffer size) v) number
-          ∙ ap (λ j. settle (first (rowsAt v pos size j)) (filled 0 buffer) v (filledFrom v j pos buffer size) v) spotted
-          ∙ outcome-is (total len) v d y (f .sane) w off pos buffer size in
+        ap (λ j. settle j (filled 0 buffer) v (filledFrom v (spot (target v p k)) pos buffer size) v) number
+        ∙ ap (λ j. settle (first (rowsAt v pos size j)) (filled 0 buffer) v (filledFrom v j pos buffer size) v) spotted
+        ∙ outcome-is (total len) v d y (f .sane) w off pos buffer size in
         rw (← m, ← c) (f, whole, readable (total len) v d y (f .sane) w off)

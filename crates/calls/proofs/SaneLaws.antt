@@ -1,16 +1,16 @@
 -- A sound volume can be looked through: every directory that a path can lead to has its chain on the volume and proper slots.
-use Prim.Native.Nat.{ℕ, zero, suc, _+_, _≤_, _<_}
-use mathlib.Core.Path.{_≡_, refl, sym, ap, _∙_}
-use mathlib.Core.List.{List, [], _∷_, List·Memᴰ, List·Memᴰ·head, List·Memᴰ·tail}
+use Prim.Native.Nat.{ℕ, _<_}
+use mathlib.Core.Path.{_≡_}
+use mathlib.Core.List.{List, _∷_, List·Memᴰ, List·Memᴰ·head, List·Memᴰ·tail}
 use mathlib.Core.Bool.{true}
 use Rattle.model.specs.Bytes.{Bytes}
-use Rattle.model.specs.Directory.{volume, directory, improper, sort, key, used, chain, slots, slotsBelow, kids}
+use Rattle.model.specs.Directory.{volume, directory, sort, key, used, chain, slots, slotsBelow, kids}
 use Rattle.model.specs.Sound.{sound}
 use Rattle.facts.specs.Reached as met
 use Rattle.facts.proofs.BlockLaws.{met-directory}
 use Rattle.facts.proofs.LookupLaws.{met-kid, volume-directory}
 use Rattle.facts.proofs.SlotLaws.{improper-fault, kid-entry}
-use Rattle.directory.specs.Search.{Each, Readable, listed, Searchable}
+use Rattle.directory.specs.Search.{Each, listed, Searchable}
 use Rattle.directory.specs.Lookup.{Reached, top, below, Sane}
 
 among : (s : ℕ) (ss : List ℕ) → List·Memᴰ s ss → met.Among s ss
@@ -28,8 +28,8 @@ searchable n {l} {e} {d} {v} h m o =
     record {
       inside = each-inside n (chain v (key v d) (used v d)) (met-directory h m o .chained);
       entries = λ s a.
-        let b : met.Among s (kids v d) = rw o (among s (listed v (key v d) (used v d)) a) in
-        record { entry = kid-entry n h m o s b; proper = improper-fault n h (met-kid n h m o b .1) }
+          let b : met.Among s (kids v d) = rw o (among s (listed v (key v d) (used v d)) a) in
+          record { entry = kid-entry n h m o s b; proper = improper-fault n h (met-kid n h m o b .1) };
     }
 
 pub record Known (v : Bytes) (d : ℕ) : Type 0 where

@@ -1,31 +1,24 @@
 -- What space and get info answer, by what the image and the path are.
-use Prim.Native.Nat.{ℕ, _+_, _-_, _*_, _/_, _%_, _≤_, _<_}
+use Prim.Native.Nat.{ℕ, _+_, _/_}
 use mathlib.Core.Path.{_≡_, refl, sym, ap, _∙_}
-use mathlib.Core.List.{List, [], _∷_}
-use mathlib.Core.Bool.{Bool, true, false, not}
-use lib.Dec.{leb, eqb}
+use mathlib.Core.List.{[]}
 use native.Mathlib.Omega.{arith}
-use borrow.Author.Tests.{eqb-true, eqb-false, leb-true, eq-eqb, ne-eqb}
+use borrow.Author.Tests.{ne-eqb}
 use Rattle.model.specs.Bytes.{Bytes, word}
 use Rattle.model.specs.Map.{room}
 use Rattle.model.specs.Directory.{at, volume, volumeLength, mapBlock, mapPlace, access, there}
 use Rattle.directory.specs.Slots.{placeOf, entryOf, entryWith}
-use Rattle.model.specs.Sound.{properSize, wholeBlocks, prodos, sound}
-use Rattle.model.specs.Refusals.{refusalNumber, row, first, Outcome, settle}
+use Rattle.model.specs.Refusals.{refusalNumber, first, settle}
 use Rattle.model.specs.Calls.{total, target, spot}
-use Rattle.model.specs.Info.{stampAt, Space, noSpace, space, spaceNumber, noInfo, info, entryInfo, volumeInfo, getInfo, getInfoNumber}
+use Rattle.model.specs.Info.{stampAt, noSpace, space, spaceNumber, noInfo, info, entryInfo, volumeInfo, getInfo, getInfoNumber}
 use Rattle.model.specs.Answers.{Measures, Tells}
 use Rattle.model.specs.declared.Info.{Info}
 use Rattle.model.specs.declared.Entry.{Entry}
 use Rattle.model.specs.declared.Place.{Place}
-use Rattle.model.specs.Kinds.{kindNumber}
 use Rattle.model.specs.declared.Refusal.{Refusal}
-use Rattle.model.specs.declared.Refusal.the-variants.{NotProdos, NotSound}
 use Rattle.model.specs.declared.SpaceAnswer.the-variants as spacing
 use Rattle.model.specs.declared.InfoAnswer.the-variants as information
 use Rattle.model.proofs.RefusalLaws.{settle-refused, settle-accepted, number-refuses}
-use Rattle.claims.proofs.SoundFacts.{sound-facts}
-use Rattle.claims.proofs.TestLaws.{and-true}
 use Rattle.calls.specs.Opened.{volumeIn, openedBy, told}
 use Rattle.calls.specs.declared.Volume.{Volume}
 use Rattle.calls.specs.declared.Volume.the-variants as volumes
@@ -53,7 +46,7 @@ space-told len v n e =
     let f = volume-sound len v n e in
     record {
       said = sym q;
-      told = rw (f .size, ← f .placed) (sym (settle-accepted (spaceNumber len v) noSpace v (record { total = total len; unused = room (mapBlock v) v (total len) }) v q .0))
+      told = rw (f .size, ← f .placed) (sym (settle-accepted (spaceNumber len v) noSpace v (record { total = total len; unused = room (mapBlock v) v (total len) }) v q .0));
     }
 
 -- get info: rows up to $46 only
@@ -75,7 +68,7 @@ told-at len v p k d s o i e z t h =
     let q : getInfoNumber len v p k (target v p k) ≡ 0 = info-number len v p k ∙ ap (λ o. openedOr o 0) e ∙ z in
     record {
       said = sym q;
-      told = sym (settle-accepted (getInfoNumber len v p k (target v p k)) noInfo v (info (total len) v (spot (target v p k))) v q .0 ∙ ap (λ t. info (total len) v (spot t)) t ∙ h)
+      told = sym (settle-accepted (getInfoNumber len v p k (target v p k)) noInfo v (info (total len) v (spot (target v p k))) v q .0 ∙ ap (λ t. info (total len) v (spot t)) t ∙ h);
     }
 
 -- the decoded entry at a place is what the definition tells
@@ -91,7 +84,7 @@ entry-told n v d s w off =
       used = field-at v s off 0x13 (volumeLength v) i;
       eof = eof-at v s off i;
       created = stampAt v (at s + 0x18);
-      modified = stampAt v (at s + 0x21)
+      modified = stampAt v (at s + 0x21);
     })
 
 pub info-volume : (len : ℕ) (v p : Bytes) (k n : ℕ) → openedBy len v p k ≡ opened.Volume n → Fits len v n × Tells (getInfo len v p k) (information.Told (volumeInfo n v))
@@ -113,4 +106,4 @@ info-entry len v p k n s x e = go (openedBy len v p k) refl e (seen len v p k)
     go o q z (on-entry d y f t off) =
         let m : entryOf v (at y) ≡ x = cc in
         rw (← m) (told-at len v p k d y (opened.Entry (total len) (placeOf y) (entryOf v (at y))) (told (entryOf v (at y))) q refl t
-          (entry-told (total len) v d y (target-named (total len) v p k d y (f .sane) t) off))
+        (entry-told (total len) v d y (target-named (total len) v p k d y (f .sane) t) off))

@@ -1,13 +1,12 @@
 -- What the calls share before their own work: the volume, and what a path leads to, with the refusals up to $46 in the order of the table.
 use Prim.Native.Nat.{ℕ}
-use mathlib.Core.Bool.{Bool, true, false}
+use mathlib.Core.Bool.{true, false}
 use lib.Dec.{eqb}
 use Rattle.model.specs.Bytes.{Bytes, _and_}
 use Rattle.model.specs.Names.{properPath}
 use Rattle.model.specs.Directory.{at, volume, Target, noVolume, noDirectory, missing, there}
 use Rattle.model.specs.Sound.{wholeBlocks, prodos, sound}
 use Rattle.model.specs.Calls.{total, target}
-use Rattle.model.specs.declared.Refusal.{Refusal}
 use Rattle.model.specs.declared.Refusal.the-variants.{NotProdos, NotSound, BadPath, NoVolume, NoDirectory, NotFound}
 use Rattle.model.specs.Kinds.{kindNumber}
 use Rattle.model.specs.declared.Info.{Info}

@@ -1,6 +1,6 @@
 -- Reading a file by its decoded entry.
 use Prim.Native.Nat.{ℕ, _-_, _<_, min}
-use mathlib.Core.List.{List, [], _∷_}
+use mathlib.Core.List.{[], _∷_}
 use mathlib.Core.Bool.{Bool, true, false, not}
 use lib.Dec.{leb, ltb, eqb}
 use Rattle.model.specs.Bytes.{Bytes, paste, from, _and_}

@@ -14,7 +14,6 @@ ghost use Rattle.model.specs.Read.{read as readCall};
 ghost use Rattle.model.specs.Answers.{Reads, Tells, Measures};
 ghost use Rattle.calls.specs.Opened.{volumeIn, openedAt, openedBy, told};
 ghost use Rattle.calls.specs.Reading.{heightOf, isFolder, Readable, entryRead};
-
 use directory::Looked;
 use model::Entry;
 use model::Info;
@@ -140,7 +139,7 @@ fn half(img: &[u8], at: usize) -> u16
 }
 
 // What get info tells of the volume.
-fn volume_info(img: &[u8], n: usize) -> Info
+pub fn volume_info(img: &[u8], n: usize) -> Info
     requires { ⌜ (16 ≤ n) × (n ≤ 65535) × (length (now img) ≡ n * 512) × (mapBlock (view (now img)) ≡ mapPlace) ⌝ }
     ensures { λ r. ⌜ r ≡ volumeInfo n (view (now (img .entry))) ⌝ }
 {
@@ -214,7 +213,15 @@ fn read_file(img: &[u8], n: usize, entry: Entry, position: usize, buffer: &mut [
         }
     }
     let count = least(size, eof - position);
-    file::read_bytes(img, n, height, model::key_of(kind) as usize, position, buffer, count);
+    file::read_bytes(
+        img,
+        n,
+        height,
+        model::key_of(kind) as usize,
+        position,
+        buffer,
+        count,
+    );
     Transfer::Moved(count)
 }
 

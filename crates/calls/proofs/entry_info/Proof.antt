@@ -1,18 +1,12 @@
+-- `calls::entry_info` meets its contract: the kind as its number, all else as it stands in the entry. Assumes nothing.
 use mathlib.Core.Path.{ap}
-use Rattle.calls.specs.Opened.{told}
-use Rattle.model.specs.declared.Info.{Info}
 use borrow.Author.Needs.{needs}
 use Rattle.calls.proofs.entry_info.Statement.{statement}
 use Rattle.calls.proofs.entry_info.Tie as tie
-use Rattle.calls.proofs.entry_info.Reads as reads
-use Rattle.calls.proofs.entry_info.Lts as lts
-use Rattle.model.proofs.kind_number.Reads as kind-number-reads
 
--- src/lib.rt:67:15
 kind-number-requires : tie.Need-kind-number-requires
 kind-number-requires c κs = search needs
 
--- src/lib.rt:60:1
 returns : tie.Need-returns
 returns c =
     let x = c .before .before .before .args .entry in

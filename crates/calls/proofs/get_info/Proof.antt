@@ -1,29 +1,21 @@
-use mathlib.Core.Path.{_≡_, sym, _∙_}
+-- `calls::get_info` meets its contract, by what the path leads to. Assumes nothing.
+use mathlib.Core.Path.{sym, _∙_}
 use lib.ListN.{length}
+use borrow.Author.Needs.{needs}
 use Rattle.model.specs.Bytes.{view}
 use Rattle.calls.proofs.TellLaws.{info-refused, info-volume, info-entry}
-use borrow.Author.Needs.{needs}
 use Rattle.calls.proofs.get_info.Statement.{statement}
 use Rattle.calls.proofs.get_info.Tie as tie
-use Rattle.calls.proofs.get_info.Reads as reads
-use Rattle.calls.proofs.get_info.Lts as lts
-use Rattle.calls.proofs.entry_info.Reads as entry-info-reads
-use Rattle.calls.proofs.opened_by.Reads as opened-by-reads
-use Rattle.calls.proofs.volume_info.Reads as volume-info-reads
 
--- src/lib.rt:168:11
 opened-by-requires : tie.Need-opened-by-requires
 opened-by-requires c κs = search needs
 
--- src/lib.rt:169:25
 enum-known-why : tie.Need-enum-known-why
 enum-known-why c = search needs
 
--- src/lib.rt:170:24
 enum-known-n : tie.Need-enum-known-n
 enum-known-n c = search needs
 
--- src/lib.rt:170:47
 volume-info-requires : tie.Need-volume-info-requires
 volume-info-requires c κs =
     let a = c .before .before .before .before .before .before .args in
@@ -32,15 +24,12 @@ volume-info-requires c κs =
     let f = info-volume (length l) (view l) (view p) (length p) _ (sym (c .before .before .before .opened-by .ensures) ∙ c .before .n .given .1) .0 in
     (f .least, f .most, f .whole, f .placed)
 
--- src/lib.rt:171:29
 enum-known-entry : tie.Need-enum-known-entry
 enum-known-entry c = search needs
 
--- src/lib.rt:171:56
 entry-info-requires : tie.Need-entry-info-requires
 entry-info-requires c κs = search needs
 
--- src/lib.rt:165:1
 returns : tie.Need-returns
 returns c =
     let a = c .before .before .before .before .before .before .args in
@@ -48,7 +37,6 @@ returns c =
     let p = a .path .now in
     info-refused (length l) (view l) (view p) (length p) _ (sym (c .before .before .before .opened-by .ensures) ∙ c .before .why .given .1)
 
--- src/lib.rt:165:1
 returns-2 : tie.Need-returns-2
 returns-2 c =
     let a = c .before .before .before .before .before .before .before .args in
@@ -56,7 +44,6 @@ returns-2 c =
     let p = a .path .now in
     rw (c .volume-info .ensures) (info-volume (length l) (view l) (view p) (length p) _ (sym (c .before .before .before .before .opened-by .ensures) ∙ c .before .before .n .given .1) .1)
 
--- src/lib.rt:165:1
 returns-3 : tie.Need-returns-3
 returns-3 c =
     let a = c .before .before .before .before .before .before .before .args in

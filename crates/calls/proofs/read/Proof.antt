@@ -1,32 +1,24 @@
-use mathlib.Core.Path.{_≡_, sym, _∙_}
+-- `calls::read` meets its contract, by what the path leads to. Assumes nothing.
+use mathlib.Core.Path.{sym, _∙_}
 use lib.ListN.{length}
+use borrow.Author.Needs.{needs}
 use Rattle.model.specs.Bytes.{view}
 use Rattle.calls.proofs.ReadLaws.{read-refused, read-volume, read-entry}
-use borrow.Author.Needs.{needs}
 use Rattle.calls.proofs.read.Statement.{statement}
 use Rattle.calls.proofs.read.Tie as tie
-use Rattle.calls.proofs.read.Reads as reads
-use Rattle.calls.proofs.read.Lts as lts
-use Rattle.calls.proofs.opened_by.Reads as opened-by-reads
-use Rattle.calls.proofs.read_file.Reads as read-file-reads
 
--- src/lib.rt:225:11
 opened-by-requires : tie.Need-opened-by-requires
 opened-by-requires c κs = search needs
 
--- src/lib.rt:226:25
 enum-known-why : tie.Need-enum-known-why
 enum-known-why c = search needs
 
--- src/lib.rt:227:48
 enum-told : tie.Need-enum-told
 enum-told c = search needs
 
--- src/lib.rt:228:23
 enum-known-n : tie.Need-enum-known-n
 enum-known-n c = search needs
 
--- src/lib.rt:228:39
 read-file-requires : tie.Need-read-file-requires
 read-file-requires c κs =
     let a = c .before .before .before .before .before .before .before .before .args in
@@ -36,7 +28,6 @@ read-file-requires c κs =
     let r = read-entry (length l) (view l) (view p) (length p) (a .position) (view b) (length b) _ _ _ (sym (c .before .before .before .before .opened-by .ensures) ∙ c .before .before .n .given .1) in
     (r .0 .most, r .0 .whole, r .2)
 
--- src/lib.rt:222:1
 returns : tie.Need-returns
 returns c =
     let a = c .before .before .before .before .before .before .before .args in
@@ -44,7 +35,6 @@ returns c =
     let p = a .path .now in
     read-refused (length l) (view l) (view p) (length p) (a .position) (a .buffer .now) _ (sym (c .before .before .before .opened-by .ensures) ∙ c .before .why .given .1)
 
--- src/lib.rt:222:1
 returns-2 : tie.Need-returns-2
 returns-2 c =
     let a = c .before .before .before .before .before .before .args in
@@ -52,11 +42,9 @@ returns-2 c =
     let p = a .path .now in
     read-volume (length l) (view l) (view p) (length p) (a .position) _ (a .buffer .now) (sym (c .before .before .opened-by .ensures) ∙ c .enum-told .given .1)
 
--- src/lib.rt:222:1
 same-length : tie.Need-same-length
 same-length c = search needs
 
--- src/lib.rt:222:1
 returns-3 : tie.Need-returns-3
 returns-3 c =
     let a = c .before .before .before .before .before .before .before .before .before .before .before .args in

@@ -1,34 +1,27 @@
-use mathlib.Core.Path.{_≡_, refl, sym, ap, _∙_}
+-- `calls::read_file` meets its contract: each refusal is one row of the table, in its order; then the file's bytes. Assumes nothing.
+use mathlib.Core.Path.{sym, ap, _∙_}
 use mathlib.Core.Logic.{⊎-elim}
 use lib.ListN.{length}
 use native.Mathlib.Omega.{arith}
+use borrow.Author.Needs.{needs}
 use Rattle.model.specs.Bytes.{view, paste, from}
 use Rattle.model.specs.File.{fileByte}
 use Rattle.model.specs.declared.Refusal.the-variants.{BadKind, Locked, BadPosition, EndOfFile}
 use Rattle.calls.specs.Reading.{heightOf}
-use Rattle.calls.proofs.CodeLaws.{folder, no-folder, number-folder, number-locked, number-far, number-end, number-none, entry-no, entry-moved}
-use borrow.Author.Needs.{needs}
+use Rattle.calls.proofs.ReadLaws.{folder-number}
+use Rattle.calls.proofs.CodeLaws.{folder, no-folder, number-locked, number-far, number-end, number-none, entry-no, entry-moved}
 use Rattle.calls.proofs.read_file.Statement.{statement}
 use Rattle.calls.proofs.read_file.Tie as tie
-use Rattle.calls.proofs.read_file.Reads as reads
-use Rattle.calls.proofs.read_file.Lts as lts
-use Rattle.calls.proofs.height_of.Reads as height-of-reads
-use Rattle.calls.proofs.least.Reads as least-reads
-use Rattle.file.proofs.read_bytes.Reads as read-bytes-reads
-use Rattle.model.proofs.key_of.Reads as key-of-reads
 
--- src/lib.rt:131:9
 height-of-requires : tie.Need-height-of-requires
 height-of-requires c κs = search needs
 
--- src/lib.rt:133:9
 returns : tie.Need-returns
 returns c =
     let a = c .before .before .before .before .args in
     let l = a .buffer .now in
-    entry-no (view (a .img .now)) (a .entry) (a .position) l BadKind (number-folder (a .entry) (a .position) (length l) (folder (a .entry .kind) (sym (c .before .height-of .ensures) ∙ c .if1 .taken)))
+    entry-no (view (a .img .now)) (a .entry) (a .position) l BadKind (folder-number (a .entry) (a .position) (length l) (folder (a .entry .kind) (sym (c .before .height-of .ensures) ∙ c .if1 .taken)))
 
--- src/lib.rt:136:9
 returns-2 : tie.Need-returns-2
 returns-2 c =
     let a = c .before .before .before .before .before .before .args in
@@ -36,11 +29,9 @@ returns-2 c =
     let f = no-folder (a .entry .kind) (λ e. c .before .before .if1 .left (c .before .before .before .height-of .ensures ∙ e)) in
     entry-no (view (a .img .now)) (a .entry) (a .position) l Locked (number-locked (a .entry) (a .position) (length l) f (c .if2 .taken))
 
--- src/lib.rt:138:15
 cast-eof : tie.Need-cast-eof
 cast-eof c = search needs
 
--- src/lib.rt:140:9
 returns-3 : tie.Need-returns-3
 returns-3 c =
     let a = c .before .before .before .before .before .before .before .before .args in
@@ -48,7 +39,6 @@ returns-3 c =
     let f = no-folder (a .entry .kind) (λ e. c .before .before .before .before .if1 .left (c .before .before .before .before .before .height-of .ensures ∙ e)) in
     entry-no (view (a .img .now)) (a .entry) (a .position) l BadPosition (number-far (a .entry) (a .position) (length l) f (c .before .before .if2 .left) (c .if3 .taken))
 
--- src/lib.rt:145:13
 returns-4 : tie.Need-returns-4
 returns-4 c =
     let a = c .before .before .before .before .before .before .before .before .before .before .args in
@@ -56,19 +46,15 @@ returns-4 c =
     let f = no-folder (a .entry .kind) (λ e. c .before .before .before .before .before .before .if1 .left (c .before .before .before .before .before .before .before .height-of .ensures ∙ e)) in
     entry-no (view (a .img .now)) (a .entry) (a .position) l EndOfFile (number-end (a .entry) (a .position) (length l) f (c .before .before .before .before .if2 .left) (c .before .before .if3 .left) (c .before .if4 .taken) (c .if5 .taken))
 
--- src/lib.rt:148:9
 least-requires : tie.Need-least-requires
 least-requires c κs = search needs
 
--- src/lib.rt:149:38
 key-of-requires : tie.Need-key-of-requires
 key-of-requires c κs = search needs
 
--- src/lib.rt:149:38
 cast-read-bytes : tie.Need-cast-read-bytes
 cast-read-bytes c = search needs
 
--- src/lib.rt:149:5
 read-bytes-requires : tie.Need-read-bytes-requires
 read-bytes-requires c κs =
     let a = c .before .before .before .before .before .before .before .before .before .before .before .before in
@@ -76,11 +62,9 @@ read-bytes-requires c κs =
     let r = a .pre .2 f in
     ((a .pre .0, a .pre .1, rw (c .before .before .before .before .before .before .before .before .before .height-of .ensures) (r .low), rw (c .before .before .before .before .before .before .before .before .before .height-of .ensures, c .before .key-of .ensures) (r .backed)), (omega arith, omega arith))
 
--- src/lib.rt:126:1
 same-length : tie.Need-same-length
 same-length c = search needs
 
--- src/lib.rt:126:1
 returns-5 : tie.Need-returns-5
 returns-5 c =
     let a = c .before .before .before .before .before .before .before .before .before .before .before .before .before .before .before .args in
@@ -90,9 +74,9 @@ returns-5 c =
     let z = number-none (a .entry) (a .position) (length l) f (c .before .before .before .before .before .before .before .before .before .if2 .left) (c .before .before .before .before .before .before .before .if3 .left) (λ s p. ⊎-elim (λ w. w .1 .left p) (λ w. omega arith) (c .before .before .before .before .before .before .if4 .came)) in
     let k = c .before .before .before .before .before .least .result in
     let b =
-      c .before .before .read-bytes .ensures
-      ∙ ap (λ h. paste (view l) 0 k (from (fileByte v h (c .before .before .before .before .key-of .result)) (a .position))) (c .before .before .before .before .before .before .before .before .before .before .before .before .height-of .ensures)
-      ∙ ap (λ y. paste (view l) 0 k (from (fileByte v (heightOf (a .entry .kind)) y) (a .position))) (c .before .before .before .before .key-of .ensures) in
+    c .before .before .read-bytes .ensures
+    ∙ ap (λ h. paste (view l) 0 k (from (fileByte v h (c .before .before .before .before .key-of .result)) (a .position))) (c .before .before .before .before .before .before .before .before .before .before .before .before .height-of .ensures)
+    ∙ ap (λ y. paste (view l) 0 k (from (fileByte v (heightOf (a .entry .kind)) y) (a .position))) (c .before .before .before .before .key-of .ensures) in
     entry-moved v (a .entry) (a .position) l k _ z (c .before .before .before .before .before .least .ensures) (c .before .before .read-bytes .kept .1 .1 .1 .1 .1 .0) b
 
 pub read-file-spec : {M : Type 1} → statement M

@@ -1,38 +1,30 @@
-use mathlib.Core.Path.{_≡_, sym, _∙_}
+-- `calls::space` meets its contract: a sound volume's blocks fit 16 bits, and its map is in place. Assumes nothing.
+use mathlib.Core.Path.{sym, _∙_}
 use lib.ListN.{length}
 use native.Mathlib.Omega.{arith}
+use borrow.Author.Needs.{needs}
 use Rattle.model.specs.Bytes.{view}
 use Rattle.model.specs.Map.{mapBlocks}
 use Rattle.calls.proofs.VolumeLaws.{volume-sound}
 use Rattle.calls.proofs.TellLaws.{space-refused, space-told}
-use borrow.Author.Needs.{needs}
 use Rattle.calls.proofs.space.Statement.{statement}
 use Rattle.calls.proofs.space.Tie as tie
-use Rattle.calls.proofs.space.Reads as reads
-use Rattle.calls.proofs.space.Lts as lts
-use Rattle.calls.proofs.volume_in.Reads as volume-in-reads
-use Rattle.map.proofs.free_blocks.Reads as free-blocks-reads
 
--- src/lib.rt:107:11
 volume-in-requires : tie.Need-volume-in-requires
 volume-in-requires c κs = search needs
 
--- src/lib.rt:108:25
 enum-known-why : tie.Need-enum-known-why
 enum-known-why c = search needs
 
--- src/lib.rt:109:23
 enum-known-n : tie.Need-enum-known-n
 enum-known-n c = search needs
 
--- src/lib.rt:110:20
 cast-t6 : tie.Need-cast-t6
 cast-t6 c =
     let l = c .before .before .before .before .before .args .img .now in
     let f = volume-sound (length l) (view l) _ (sym (c .before .before .before .volume-in .ensures) ∙ c .before .n .given .1) in
     omega arith
 
--- src/lib.rt:111:19
 free-blocks-requires : tie.Need-free-blocks-requires
 unfolding mapBlocks
 free-blocks-requires c κs =
@@ -40,18 +32,15 @@ free-blocks-requires c κs =
     let f = volume-sound (length l) (view l) _ (sym (c .before .before .before .volume-in .ensures) ∙ c .before .n .given .1) in
     (f .most, omega arith)
 
--- src/lib.rt:111:19
 cast-t8 : tie.Need-cast-t8
 cast-t8 c =
     let l = c .before .before .before .before .before .before .args .img .now in
     let f = volume-sound (length l) (view l) _ (sym (c .before .before .before .before .volume-in .ensures) ∙ c .before .before .n .given .1) in
     omega arith
 
--- src/lib.rt:104:1
 returns : tie.Need-returns
 returns c = let l = c .before .before .before .before .before .args .img .now in space-refused (length l) (view l) _ (sym (c .before .before .before .volume-in .ensures) ∙ c .before .why .given .1)
 
--- src/lib.rt:104:1
 returns-2 : tie.Need-returns-2
 returns-2 c =
     let l = c .before .before .before .before .before .before .args .img .now in

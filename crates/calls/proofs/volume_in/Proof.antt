@@ -1,49 +1,38 @@
-use mathlib.Core.Path.{_≡_, sym, _∙_}
+-- `calls::volume_in` meets its contract: each branch is one row of the table, $52 or $5A, or neither. Assumes nothing.
+use mathlib.Core.Path.{sym, _∙_}
 use lib.ListN.{length}
 use native.Mathlib.Omega.{arith}
 use borrow.Author.Tests.{not-true, not-false}
+use borrow.Author.Needs.{needs}
 use Rattle.model.specs.Bytes.{view}
 use Rattle.calls.proofs.CodeLaws.{volume-unfit, volume-other, whole, volume-bad, volume-good}
-use borrow.Author.Needs.{needs}
 use Rattle.calls.proofs.volume_in.Statement.{statement}
 use Rattle.calls.proofs.volume_in.Tie as tie
-use Rattle.calls.proofs.volume_in.Reads as reads
-use Rattle.calls.proofs.volume_in.Lts as lts
-use Rattle.checks.proofs.is_prodos.Reads as is-prodos-reads
-use Rattle.sound.proofs.is_sound.Reads as is-sound-reads
 
--- src/lib.rt:53:9
 returns : tie.Need-returns
 returns c = let l = c .before .before .args .img .now in sym (volume-unfit (length l) (view l) (λ r a b. c .if1 .taken r))
 
--- src/lib.rt:57:9
 returns-2 : tie.Need-returns-2
 returns-2 c = let l = c .before .before .before .args .img .now in sym (volume-unfit (length l) (view l) (λ r a b. omega arith))
 
--- src/lib.rt:60:9
 returns-3 : tie.Need-returns-3
 returns-3 c = let l = c .before .before .before .before .args .img .now in sym (volume-unfit (length l) (view l) (λ r a b. omega arith))
 
--- src/lib.rt:62:9
 is-prodos-requires : tie.Need-is-prodos-requires
 is-prodos-requires c κs = search needs
 
--- src/lib.rt:63:9
 returns-4 : tie.Need-returns-4
 returns-4 c = let l = c .before .before .before .before .before .before .args .img .now in sym (volume-other (length l) (view l) (sym (c .before .is-prodos .ensures) ∙ not-true _ (c .if4 .taken)))
 
--- src/lib.rt:65:8
 is-sound-requires : tie.Need-is-sound-requires
 is-sound-requires c κs = search needs
 
--- src/lib.rt:48:1
 returns-5 : tie.Need-returns-5
 returns-5 c =
     let l = c .before .before .before .before .before .before .before .before .args .img .now in
     let w = whole (length l) (view l) (c .before .before .before .before .before .before .if1 .left) (c .before .before .before .before .before .if2 .left) (c .before .before .before .before .if3 .left) in
     sym (volume-good (length l) (view l) w (sym (c .before .before .before .is-prodos .ensures) ∙ not-false _ (c .before .before .if4 .left)) (sym (c .before .is-sound .ensures) ∙ c .if5 .taken))
 
--- src/lib.rt:48:1
 returns-6 : tie.Need-returns-6
 returns-6 c =
     let l = c .before .before .before .before .before .before .before .before .args .img .now in
