@@ -139,7 +139,7 @@ fn half(img: &[u8], at: usize) -> u16
 }
 
 // What get info tells of the volume.
-pub fn volume_info(img: &[u8], n: usize) -> Info
+fn volume_info(img: &[u8], n: usize) -> Info
     requires { ⌜ (16 ≤ n) × (n ≤ 65535) × (length (now img) ≡ n * 512) × (mapBlock (view (now img)) ≡ mapPlace) ⌝ }
     ensures { λ r. ⌜ r ≡ volumeInfo n (view (now (img .entry))) ⌝ }
 {
