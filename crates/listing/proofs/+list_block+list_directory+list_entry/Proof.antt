@@ -256,31 +256,49 @@ list-directory-returns t c =
     )
 
 list-entry-address-of-requires : (t : ℕ) → list-entry-lts.Need-address-of-requires (list-entry-calls t) (list-entry-at t) list-entry.Post
-list-entry-address-of-requires t c κs = slot-few (c .before .before .before .args .img .now) (c .before .before .before .args .levels) (c .before .before .before .args .slot) _ (c .before .before .before .pre .1 .0) (c .before .before .before .pre .1 .3) refl (c .before .before .before .pre .1 .1)
+list-entry-address-of-requires t c κs =
+    let start = c .before .before .before in
+    slot-few (start .args .img .now) (start .args .levels) (start .args .slot) _ (start .pre .1 .0) (start .pre .1 .3) refl (start .pre .1 .1)
 
 list-entry-shared-slice-read-kind : (t : ℕ) → list-entry-lts.Need-shared-slice-read-kind (list-entry-calls t) (list-entry-at t) list-entry.Post
-list-entry-shared-slice-read-kind t c = omega (arith, slot-inside (c .before .before .before .before .before .args .img .now) (c .before .before .before .before .before .args .levels) (c .before .before .before .before .before .args .slot) _ (c .before .before .before .before .before .pre .1 .0) (c .before .before .before .before .before .pre .1 .3) (c .before .address-of .ensures) (c .before .before .before .before .before .pre .1 .1))
+list-entry-shared-slice-read-kind t c =
+    let start = c .before .before .before .before .before in
+    omega (arith, slot-inside (start .args .img .now) (start .args .levels) (start .args .slot) _ (start .pre .1 .0) (start .pre .1 .3) (c .before .address-of .ensures) (start .pre .1 .1))
 
 list-entry-returns : (t : ℕ) → list-entry-lts.Need-returns (list-entry-calls t) (list-entry-at t) list-entry.Post
-list-entry-returns t c = (prints-as (slot-quiet (c .before .before .before .before .before .before .args .img .now) (c .before .before .before .before .before .before .args .levels) (c .before .before .before .before .before .before .args .slot) _ (c .before .before .before .before .before .before .pre .1 .0) (c .before .before .before .before .before .before .pre .1 .3) (c .before .before .address-of .ensures) _ (c .if1 .taken)) prints-none, refl)
+list-entry-returns t c =
+    let start = c .before .before .before .before .before .before in
+    (prints-as (slot-quiet (start .args .img .now) (start .args .levels) (start .args .slot) _ (start .pre .1 .0) (start .pre .1 .3) (c .before .before .address-of .ensures) _ (c .if1 .taken)) prints-none, refl)
 
 list-entry-add-end : (t : ℕ) → list-entry-lts.Need-add-end (list-entry-calls t) (list-entry-at t) list-entry.Post
-list-entry-add-end t c = omega (arith, slot-inside (c .before .before .before .before .before .before .args .img .now) (c .before .before .before .before .before .before .args .levels) (c .before .before .before .before .before .before .args .slot) _ (c .before .before .before .before .before .before .pre .1 .0) (c .before .before .before .before .before .before .pre .1 .3) (c .before .before .address-of .ensures) (c .before .before .before .before .before .before .pre .1 .1))
+list-entry-add-end t c =
+    let start = c .before .before .before .before .before .before in
+    omega (arith, slot-inside (start .args .img .now) (start .args .levels) (start .args .slot) _ (start .pre .1 .0) (start .pre .1 .3) (c .before .before .address-of .ensures) (start .pre .1 .1))
 
 list-entry-extend-requires : (t : ℕ) → list-entry-lts.Need-extend-requires (list-entry-calls t) (list-entry-at t) list-entry.Post
-list-entry-extend-requires t c κs = omega (arith, slot-inside (c .before .before .before .before .before .before .before .args .img .now) (c .before .before .before .before .before .before .before .args .levels) (c .before .before .before .before .before .before .before .args .slot) _ (c .before .before .before .before .before .before .before .pre .1 .0) (c .before .before .before .before .before .before .before .pre .1 .3) (c .before .before .before .address-of .ensures) (c .before .before .before .before .before .before .before .pre .1 .1))
+list-entry-extend-requires t c κs =
+    let start = c .before .before .before .before .before .before .before in
+    omega (arith, slot-inside (start .args .img .now) (start .args .levels) (start .args .slot) _ (start .pre .1 .0) (start .pre .1 .3) (c .before .before .before .address-of .ensures) (start .pre .1 .1))
 
 list-entry-sub-emit-line : (t : ℕ) → list-entry-lts.Need-sub-emit-line (list-entry-calls t) (list-entry-at t) list-entry.Post
-list-entry-sub-emit-line t c = omega (arith, slot-inside (c .before .before .before .before .before .before .before .before .before .before .before .args .img .now) (c .before .before .before .before .before .before .before .before .before .before .before .args .levels) (c .before .before .before .before .before .before .before .before .before .before .before .args .slot) _ (c .before .before .before .before .before .before .before .before .before .before .before .pre .1 .0) (c .before .before .before .before .before .before .before .before .before .before .before .pre .1 .3) (c .before .before .before .before .before .before .before .address-of .ensures) (c .before .before .before .before .before .before .before .before .before .before .before .pre .1 .1))
+list-entry-sub-emit-line t c =
+    let start = c .before .before .before .before .before .before .before .before .before .before .before in
+    omega (arith, slot-inside (start .args .img .now) (start .args .levels) (start .args .slot) _ (start .pre .1 .0) (start .pre .1 .3) (c .before .before .before .before .before .before .before .address-of .ensures) (start .pre .1 .1))
 
 list-entry-part-emit-line-start : (t : ℕ) → list-entry-lts.Need-part-emit-line-start (list-entry-calls t) (list-entry-at t) list-entry.Post
-list-entry-part-emit-line-start t c = omega (arith, slot-inside (c .before .before .before .before .before .before .before .before .before .before .before .args .img .now) (c .before .before .before .before .before .before .before .before .before .before .before .args .levels) (c .before .before .before .before .before .before .before .before .before .before .before .args .slot) _ (c .before .before .before .before .before .before .before .before .before .before .before .pre .1 .0) (c .before .before .before .before .before .before .before .before .before .before .before .pre .1 .3) (c .before .before .before .before .before .before .before .address-of .ensures) (c .before .before .before .before .before .before .before .before .before .before .before .pre .1 .1))
+list-entry-part-emit-line-start t c =
+    let start = c .before .before .before .before .before .before .before .before .before .before .before in
+    omega (arith, slot-inside (start .args .img .now) (start .args .levels) (start .args .slot) _ (start .pre .1 .0) (start .pre .1 .3) (c .before .before .before .before .before .before .before .address-of .ensures) (start .pre .1 .1))
 
 list-entry-part-emit-line-end : (t : ℕ) → list-entry-lts.Need-part-emit-line-end (list-entry-calls t) (list-entry-at t) list-entry.Post
-list-entry-part-emit-line-end t c = omega (arith, slot-inside (c .before .before .before .before .before .before .before .before .before .before .before .args .img .now) (c .before .before .before .before .before .before .before .before .before .before .before .args .levels) (c .before .before .before .before .before .before .before .before .before .before .before .args .slot) _ (c .before .before .before .before .before .before .before .before .before .before .before .pre .1 .0) (c .before .before .before .before .before .before .before .before .before .before .before .pre .1 .3) (c .before .before .before .before .before .before .before .address-of .ensures) (c .before .before .before .before .before .before .before .before .before .before .before .pre .1 .1))
+list-entry-part-emit-line-end t c =
+    let start = c .before .before .before .before .before .before .before .before .before .before .before in
+    omega (arith, slot-inside (start .args .img .now) (start .args .levels) (start .args .slot) _ (start .pre .1 .0) (start .pre .1 .3) (c .before .before .before .before .before .before .before .address-of .ensures) (start .pre .1 .1))
 
 list-entry-emit-line-requires : (t : ℕ) → list-entry-lts.Need-emit-line-requires (list-entry-calls t) (list-entry-at t) list-entry.Post
-list-entry-emit-line-requires t c κs = omega (arith, slot-inside (c .before .before .before .before .before .before .before .before .before .before .before .before .before .args .img .now) (c .before .before .before .before .before .before .before .before .before .before .before .before .before .args .levels) (c .before .before .before .before .before .before .before .before .before .before .before .before .before .args .slot) _ (c .before .before .before .before .before .before .before .before .before .before .before .before .before .pre .1 .0) (c .before .before .before .before .before .before .before .before .before .before .before .before .before .pre .1 .3) (c .before .before .before .before .before .before .before .before .before .address-of .ensures) (c .before .before .before .before .before .before .before .before .before .before .before .before .before .pre .1 .1))
+list-entry-emit-line-requires t c κs =
+    let start = c .before .before .before .before .before .before .before .before .before .before .before .before .before in
+    omega (arith, slot-inside (start .args .img .now) (start .args .levels) (start .args .slot) _ (start .pre .1 .0) (start .pre .1 .3) (c .before .before .before .before .before .before .before .before .before .address-of .ensures) (start .pre .1 .1))
 
 list-entry-same-length : (t : ℕ) → list-entry-lts.Need-same-length (list-entry-calls t) (list-entry-at t) list-entry.Post
 list-entry-same-length t c = omega arith
@@ -289,34 +307,46 @@ list-entry-same-length-2 : (t : ℕ) → list-entry-lts.Need-same-length-2 (list
 list-entry-same-length-2 t c = omega arith
 
 list-entry-returns-2 : (t : ℕ) → list-entry-lts.Need-returns-2 (list-entry-calls t) (list-entry-at t) list-entry.Post
-list-entry-returns-2 t c = (
-  prints-as (slot-leaf (c .before .before .before .before .before .before .before .before .before .before .before .before .before .before .before .before .before .args .img .now) (c .before .before .before .before .before .before .before .before .before .before .before .before .before .before .before .before .before .args .levels) (c .before .before .before .before .before .before .before .before .before .before .before .before .before .before .before .before .before .args .slot) _ (c .before .before .before .before .before .before .before .before .before .before .before .before .before .before .before .before .before .pre .1 .0) (c .before .before .before .before .before .before .before .before .before .before .before .before .before .before .before .before .before .pre .1 .3) (c .before .before .before .before .before .before .before .before .before .before .before .before .before .address-of .ensures) (c .before .before .before .before .before .before .before .before .before .before .before .before .before .address-of .result + 39 - c .before .before .before .before .before .before .before .before .before .before .before .before .before .address-of .result) _ _ (omega arith) (c .before .before .before .before .before .before .before .before .before .extend .ensures .reads) (c .before .before .before .before .before .before .before .before .before .before .before .if1 .left) (c .if2 .taken)) (c .before .before .before .emit-line .ensures),
-  c .before .before .before .before .before .before .before .before .before .extend .ensures .kept,
-)
+list-entry-returns-2 t c =
+    let start = c .before .before .before .before .before .before .before .before .before .before .before .before .before .before .before .before .before in (
+      prints-as (slot-leaf (start .args .img .now) (start .args .levels) (start .args .slot) _ (start .pre .1 .0) (start .pre .1 .3) (c .before .before .before .before .before .before .before .before .before .before .before .before .before .address-of .ensures) (c .before .before .before .before .before .before .before .before .before .before .before .before .before .address-of .result + 39 - c .before .before .before .before .before .before .before .before .before .before .before .before .before .address-of .result) _ _ (omega arith) (c .before .before .before .before .before .before .before .before .before .extend .ensures .reads) (c .before .before .before .before .before .before .before .before .before .before .before .if1 .left) (c .if2 .taken)) (c .before .before .before .emit-line .ensures),
+      c .before .before .before .before .before .before .before .before .before .extend .ensures .kept,
+    )
 
 list-entry-add-get-word : (t : ℕ) → list-entry-lts.Need-add-get-word (list-entry-calls t) (list-entry-at t) list-entry.Post
-list-entry-add-get-word t c = omega (arith, slot-inside (c .before .before .before .before .before .before .before .before .before .before .before .before .before .before .before .before .before .args .img .now) (c .before .before .before .before .before .before .before .before .before .before .before .before .before .before .before .before .before .args .levels) (c .before .before .before .before .before .before .before .before .before .before .before .before .before .before .before .before .before .args .slot) _ (c .before .before .before .before .before .before .before .before .before .before .before .before .before .before .before .before .before .pre .1 .0) (c .before .before .before .before .before .before .before .before .before .before .before .before .before .before .before .before .before .pre .1 .3) (c .before .before .before .before .before .before .before .before .before .before .before .before .before .address-of .ensures) (c .before .before .before .before .before .before .before .before .before .before .before .before .before .before .before .before .before .pre .1 .1))
+list-entry-add-get-word t c =
+    let start = c .before .before .before .before .before .before .before .before .before .before .before .before .before .before .before .before .before in
+    omega (arith, slot-inside (start .args .img .now) (start .args .levels) (start .args .slot) _ (start .pre .1 .0) (start .pre .1 .3) (c .before .before .before .before .before .before .before .before .before .before .before .before .before .address-of .ensures) (start .pre .1 .1))
 
 list-entry-get-word-requires : (t : ℕ) → list-entry-lts.Need-get-word-requires (list-entry-calls t) (list-entry-at t) list-entry.Post
-list-entry-get-word-requires t c κs = omega (arith, slot-inside (c .before .before .before .before .before .before .before .before .before .before .before .before .before .before .before .before .before .args .img .now) (c .before .before .before .before .before .before .before .before .before .before .before .before .before .before .before .before .before .args .levels) (c .before .before .before .before .before .before .before .before .before .before .before .before .before .before .before .before .before .args .slot) _ (c .before .before .before .before .before .before .before .before .before .before .before .before .before .before .before .before .before .pre .1 .0) (c .before .before .before .before .before .before .before .before .before .before .before .before .before .before .before .before .before .pre .1 .3) (c .before .before .before .before .before .before .before .before .before .before .before .before .before .address-of .ensures) (c .before .before .before .before .before .before .before .before .before .before .before .before .before .before .before .before .before .pre .1 .1))
+list-entry-get-word-requires t c κs =
+    let start = c .before .before .before .before .before .before .before .before .before .before .before .before .before .before .before .before .before in
+    omega (arith, slot-inside (start .args .img .now) (start .args .levels) (start .args .slot) _ (start .pre .1 .0) (start .pre .1 .3) (c .before .before .before .before .before .before .before .before .before .before .before .before .before .address-of .ensures) (start .pre .1 .1))
 
 list-entry-add-get-word-2 : (t : ℕ) → list-entry-lts.Need-add-get-word-2 (list-entry-calls t) (list-entry-at t) list-entry.Post
-list-entry-add-get-word-2 t c = omega (arith, slot-inside (c .before .before .before .before .before .before .before .before .before .before .before .before .before .before .before .before .before .before .args .img .now) (c .before .before .before .before .before .before .before .before .before .before .before .before .before .before .before .before .before .before .args .levels) (c .before .before .before .before .before .before .before .before .before .before .before .before .before .before .before .before .before .before .args .slot) _ (c .before .before .before .before .before .before .before .before .before .before .before .before .before .before .before .before .before .before .pre .1 .0) (c .before .before .before .before .before .before .before .before .before .before .before .before .before .before .before .before .before .before .pre .1 .3) (c .before .before .before .before .before .before .before .before .before .before .before .before .before .before .address-of .ensures) (c .before .before .before .before .before .before .before .before .before .before .before .before .before .before .before .before .before .before .pre .1 .1))
+list-entry-add-get-word-2 t c =
+    let start = c .before .before .before .before .before .before .before .before .before .before .before .before .before .before .before .before .before .before in
+    omega (arith, slot-inside (start .args .img .now) (start .args .levels) (start .args .slot) _ (start .pre .1 .0) (start .pre .1 .3) (c .before .before .before .before .before .before .before .before .before .before .before .before .before .before .address-of .ensures) (start .pre .1 .1))
 
 list-entry-get-word-requires-2 : (t : ℕ) → list-entry-lts.Need-get-word-requires-2 (list-entry-calls t) (list-entry-at t) list-entry.Post
-list-entry-get-word-requires-2 t c κs = omega (arith, slot-inside (c .before .before .before .before .before .before .before .before .before .before .before .before .before .before .before .before .before .before .args .img .now) (c .before .before .before .before .before .before .before .before .before .before .before .before .before .before .before .before .before .before .args .levels) (c .before .before .before .before .before .before .before .before .before .before .before .before .before .before .before .before .before .before .args .slot) _ (c .before .before .before .before .before .before .before .before .before .before .before .before .before .before .before .before .before .before .pre .1 .0) (c .before .before .before .before .before .before .before .before .before .before .before .before .before .before .before .before .before .before .pre .1 .3) (c .before .before .before .before .before .before .before .before .before .before .before .before .before .before .address-of .ensures) (c .before .before .before .before .before .before .before .before .before .before .before .before .before .before .before .before .before .before .pre .1 .1))
+list-entry-get-word-requires-2 t c κs =
+    let start = c .before .before .before .before .before .before .before .before .before .before .before .before .before .before .before .before .before .before in
+    omega (arith, slot-inside (start .args .img .now) (start .args .levels) (start .args .slot) _ (start .pre .1 .0) (start .pre .1 .3) (c .before .before .before .before .before .before .before .before .before .before .before .before .before .before .address-of .ensures) (start .pre .1 .1))
 
 list-entry-sub-list-directory : (t : ℕ) → list-entry-lts.Need-sub-list-directory (list-entry-calls t) (list-entry-at t) list-entry.Post
-list-entry-sub-list-directory t c = directory-level (c .before .before .before .before .before .before .before .before .before .before .before .before .before .before .before .before .before .before .before .args .img .now) (c .before .before .before .before .before .before .before .before .before .before .before .before .before .before .before .before .before .before .before .args .levels) (c .before .before .before .before .before .before .before .before .before .before .before .before .before .before .before .before .before .before .before .args .slot) _ (c .before .before .before .before .before .before .before .before .before .before .before .before .before .before .before .before .before .before .before .pre .1 .0) (c .before .before .before .before .before .before .before .before .before .before .before .before .before .before .before .before .before .before .before .pre .1 .3) (c .before .before .before .before .before .before .before .before .before .before .before .before .before .before .before .address-of .ensures) (c .before .before .if2 .left)
+list-entry-sub-list-directory t c =
+    let start = c .before .before .before .before .before .before .before .before .before .before .before .before .before .before .before .before .before .before .before in
+    directory-level (start .args .img .now) (start .args .levels) (start .args .slot) _ (start .pre .1 .0) (start .pre .1 .3) (c .before .before .before .before .before .before .before .before .before .before .before .before .before .before .before .address-of .ensures) (c .before .before .if2 .left)
 
 list-entry-list-directory-requires : (t : ℕ) → list-entry-lts.Need-list-directory-requires (list-entry-calls t) (list-entry-at t) list-entry.Post
 list-entry-list-directory-requires t c κs =
-    let level = directory-level (c .before .before .before .before .before .before .before .before .before .before .before .before .before .before .before .before .before .before .before .before .before .args .img .now) (c .before .before .before .before .before .before .before .before .before .before .before .before .before .before .before .before .before .before .before .before .before .args .levels) (c .before .before .before .before .before .before .before .before .before .before .before .before .before .before .before .before .before .before .before .before .before .args .slot) _ (c .before .before .before .before .before .before .before .before .before .before .before .before .before .before .before .before .before .before .before .before .before .pre .1 .0) (c .before .before .before .before .before .before .before .before .before .before .before .before .before .before .before .before .before .before .before .before .before .pre .1 .3) (c .before .before .before .before .before .before .before .before .before .before .before .before .before .before .before .before .before .address-of .ensures) (c .before .before .before .before .if2 .left) in (
+    let start = c .before .before .before .before .before .before .before .before .before .before .before .before .before .before .before .before .before .before .before .before .before in
+    let level = directory-level (start .args .img .now) (start .args .levels) (start .args .slot) _ (start .pre .1 .0) (start .pre .1 .3) (c .before .before .before .before .before .before .before .before .before .before .before .before .before .before .before .before .before .address-of .ensures) (c .before .before .before .before .if2 .left) in (
       omega arith,
       (
-        c .before .before .before .before .before .before .before .before .before .before .before .before .before .before .before .before .before .before .before .before .before .pre .1 .0,
+        start .pre .1 .0,
         omega (arith, c .before .before .before .before .before .before .before .before .before .before .before .before .before .extend .ensures .size),
-        directory-chained (c .before .before .before .before .before .before .before .before .before .before .before .before .before .before .before .before .before .before .before .before .before .args .img .now) (c .before .before .before .before .before .before .before .before .before .before .before .before .before .before .before .before .before .before .before .before .before .args .levels) (c .before .before .before .before .before .before .before .before .before .before .before .before .before .before .before .before .before .before .before .before .before .args .slot) _ (c .before .before .before .before .before .before .before .before .before .before .before .before .before .before .before .before .before .before .before .before .before .pre .1 .0) (c .before .before .before .before .before .before .before .before .before .before .before .before .before .before .before .before .before .before .before .before .before .pre .1 .3) (c .before .before .before .before .before .before .before .before .before .before .before .before .before .before .before .before .before .address-of .ensures) (c .before .before .before .before .if2 .left) _ _ (c .before .before .before .get-word .ensures .0) (c .before .before .get-word2 .ensures .0),
+        directory-chained (start .args .img .now) (start .args .levels) (start .args .slot) _ (start .pre .1 .0) (start .pre .1 .3) (c .before .before .before .before .before .before .before .before .before .before .before .before .before .before .before .before .before .address-of .ensures) (c .before .before .before .before .if2 .left) _ _ (c .before .before .before .get-word .ensures .0) (c .before .before .get-word2 .ensures .0),
       ),
     )
 
@@ -327,12 +357,13 @@ list-entry-same-length-4 : (t : ℕ) → list-entry-lts.Need-same-length-4 (list
 list-entry-same-length-4 t c = omega arith
 
 list-entry-returns-3 : (t : ℕ) → list-entry-lts.Need-returns-3 (list-entry-calls t) (list-entry-at t) list-entry.Post
-list-entry-returns-3 t c = (
-  prints-as
-      (directory-text (c .before .before .before .before .before .before .before .before .before .before .before .before .before .before .before .before .before .before .before .before .before .before .before .before .before .before .args .img .now) (c .before .before .before .before .before .before .before .before .before .before .before .before .before .before .before .before .before .before .before .before .before .before .before .before .before .before .args .levels) (c .before .before .before .before .before .before .before .before .before .before .before .before .before .before .before .before .before .before .before .before .before .before .before .before .before .before .args .slot) _ (c .before .before .before .before .before .before .before .before .before .before .before .before .before .before .before .before .before .before .before .before .before .before .before .before .before .before .pre .1 .0) (c .before .before .before .before .before .before .before .before .before .before .before .before .before .before .before .before .before .before .before .before .before .before .before .before .before .before .pre .1 .3) (c .before .before .before .before .before .before .before .before .before .before .before .before .before .before .before .before .before .before .before .before .before .before .address-of .ensures) (c .before .before .before .before .before .before .before .before .before .if2 .left) _ _ (c .before .before .before .before .before .before .before .before .get-word .ensures .0) (c .before .before .before .before .before .before .before .get-word2 .ensures .0) (c .before .before .before .before .before .before .before .before .before .before .before .before .before .before .before .before .before .before .before .before .before .before .address-of .result + 39 - c .before .before .before .before .before .before .before .before .before .before .before .before .before .before .before .before .before .before .before .before .before .before .address-of .result) _ _ (omega arith) (c .before .before .before .before .before .before .before .before .before .before .before .before .before .before .before .before .before .before .extend .ensures .reads))
-      (c .before .before .before .before .before .before .before .before .before .before .before .before .emit-line .ensures then c .before .before .before .before .list-directory .ensures .0),
-  text-start _ _ _ _ (omega (arith, c .before .before .before .before .before .before .before .before .before .before .before .before .before .before .before .before .before .before .extend .ensures .size)) (c .before .before .before .before .list-directory .ensures .1) ∙ c .before .before .before .before .before .before .before .before .before .before .before .before .before .before .before .before .before .before .extend .ensures .kept,
-)
+list-entry-returns-3 t c =
+    let start = c .before .before .before .before .before .before .before .before .before .before .before .before .before .before .before .before .before .before .before .before .before .before .before .before .before .before in (
+      prints-as
+          (directory-text (start .args .img .now) (start .args .levels) (start .args .slot) _ (start .pre .1 .0) (start .pre .1 .3) (c .before .before .before .before .before .before .before .before .before .before .before .before .before .before .before .before .before .before .before .before .before .before .address-of .ensures) (c .before .before .before .before .before .before .before .before .before .if2 .left) _ _ (c .before .before .before .before .before .before .before .before .get-word .ensures .0) (c .before .before .before .before .before .before .before .get-word2 .ensures .0) (c .before .before .before .before .before .before .before .before .before .before .before .before .before .before .before .before .before .before .before .before .before .before .address-of .result + 39 - c .before .before .before .before .before .before .before .before .before .before .before .before .before .before .before .before .before .before .before .before .before .before .address-of .result) _ _ (omega arith) (c .before .before .before .before .before .before .before .before .before .before .before .before .before .before .before .before .before .before .extend .ensures .reads))
+          (c .before .before .before .before .before .before .before .before .before .before .before .before .emit-line .ensures then c .before .before .before .before .list-directory .ensures .0),
+      text-start _ _ _ _ (omega (arith, c .before .before .before .before .before .before .before .before .before .before .before .before .before .before .before .before .before .before .extend .ensures .size)) (c .before .before .before .before .list-directory .ensures .1) ∙ c .before .before .before .before .before .before .before .before .before .before .before .before .before .before .before .before .before .before .extend .ensures .kept,
+    )
 
 pub +list-block+list-directory+list-entry-spec : {M : Type 1} → statement M
 +list-block+list-directory+list-entry-spec =
