@@ -4,7 +4,6 @@ ghost use lib.ListN.{length};
 ghost use Rattle.model.specs.Bytes.{view};
 ghost use Rattle.model.specs.Catalog.{catalog};
 ghost use Rattle.listing.specs.Ink.{Shows};
-
 use calls::Volume;
 
 const MOST: usize = 65536;
