@@ -1,3 +1,4 @@
+-- The laws that the proofs of calls cite.
 pub mod SaneLaws
 pub mod VolumeLaws
 pub mod OpenedLaws

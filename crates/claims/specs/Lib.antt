@@ -1,1 +1,2 @@
+-- Soundness as a list of claims.
 pub mod Claims

@@ -1,3 +1,4 @@
+-- What a sound volume gives.
 pub mod MetLaws
 pub mod BlockLaws
 pub mod LookupLaws

@@ -1,3 +1,4 @@
+-- The definitions of document 01, a file for each heading.
 pub mod Bytes
 pub mod Names
 pub mod Map

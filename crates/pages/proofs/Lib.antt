@@ -1,1 +1,2 @@
+-- The laws that the proof of catalog_page cites.
 pub mod CatalogLaws

@@ -1,3 +1,4 @@
+-- `catalogs::main` meets its contract.
 use Prim.Native.Nat.{_-_, _≤_}
 use mathlib.Core.Path.{_≡_}
 use lib.ListN.{length}
@@ -16,35 +17,27 @@ Inv-loop room₀ count i₀ room i = (length room ≡ 65537)
 abbrev μ-loop : tie.MeasureT-loop
 μ-loop room₀ count i₀ room i = count - i
 
--- src/main.rt:31:9
 arg-count-requires : tie.Need-arg-count-requires Inv-loop μ-loop
 arg-count-requires c κs = search needs
 
--- src/main.rt:32:5
 loop-holds : tie.Need-loop-holds Inv-loop μ-loop
 loop-holds c = search needs
 
--- src/main.rt:33:26
 slice-aggregate-list-argument : tie.Need-slice-aggregate-list-argument Inv-loop μ-loop
 slice-aggregate-list-argument c = search needs
 
--- src/main.rt:33:9
 list-argument-requires : tie.Need-list-argument-requires Inv-loop μ-loop
 list-argument-requires c κs = search needs
 
--- src/main.rt:32:9
 add-i : tie.Need-add-i Inv-loop μ-loop
 add-i c = search needs
 
--- src/main.rt:32:5
 loop-less : tie.Need-loop-less Inv-loop μ-loop
 loop-less c = search needs
 
--- src/main.rt:32:5
 loop-again : tie.Need-loop-again Inv-loop μ-loop
 loop-again c = search needs
 
--- src/main.rt:29:1
 returns : tie.Need-returns Inv-loop μ-loop
 returns c = search needs
 

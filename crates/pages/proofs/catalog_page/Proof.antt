@@ -1,3 +1,4 @@
+-- `pages::catalog_page` meets its contract.
 use Prim.Native.Nat.{_≤_, _<_}
 use mathlib.Core.Path.{_≡_, sym, _∙_}
 use lib.ListN.{length}
@@ -17,64 +18,51 @@ use Rattle.listing.proofs.page_of_too_large.Reads as page-of-too-large-reads
 use Rattle.listing.proofs.page_of_volume.Reads as page-of-volume-reads
 use Rattle.model.proofs.refusal_number.Reads as refusal-number-reads
 
--- src/lib.rt:16:9
 page-of-too-large-requires : tie.Need-page-of-too-large-requires
 page-of-too-large-requires c κs = search needs
 
--- src/lib.rt:16:9
 same-length : tie.Need-same-length
 same-length c = search needs
 
--- src/lib.rt:16:9
 returns : tie.Need-returns
 returns c =
     let l = c .before .before .before .before .before .before .before .args .img .now in
     let h : catalogMost < length l = omega arith in
     rw (too-large (length l) (view l) h) (c .before .before .page-of-too-large .ensures)
 
--- src/lib.rt:18:11
 volume-in-requires : tie.Need-volume-in-requires
 volume-in-requires c κs = search needs
 
--- src/lib.rt:19:25
 enum-known-why : tie.Need-enum-known-why
 enum-known-why c = search needs
 
--- src/lib.rt:20:17
 refusal-number-requires : tie.Need-refusal-number-requires
 refusal-number-requires c κs = search needs
 
--- src/lib.rt:21:13
 page-of-refusal-requires : tie.Need-page-of-refusal-requires
 page-of-refusal-requires c κs = search needs
 
--- src/lib.rt:23:23
 enum-known-n : tie.Need-enum-known-n
 enum-known-n c = search needs
 
--- src/lib.rt:23:29
 page-of-volume-requires : tie.Need-page-of-volume-requires
 page-of-volume-requires c κs =
     let l = c .before .before .before .before .before .before .before .before .args .img .now in
     let f = volume-sound (length l) (view l) _ (sym (c .before .before .before .before .volume-in .ensures) ∙ c .before .before .n .given .1) in
     (f .whole, f .sane)
 
--- src/lib.rt:12:1
 same-length-2 : tie.Need-same-length-2
 same-length-2 c = search needs
 
--- src/lib.rt:12:1
 returns-2 : tie.Need-returns-2
 returns-2 c =
     let l = c .before .before .before .before .before .before .before .before .before .before .before .before .args .img .now in
     let h : length l ≤ catalogMost = omega arith in
     rw (refused-line (length l) (view l) _ h (sym (c .before .before .before .before .before .before .before .before .volume-in .ensures) ∙ c .before .before .before .before .before .before .why .given .1)) (rw (← c .before .before .before .before .refusal-number .ensures) (c .before .before .page-of-refusal .ensures))
 
--- src/lib.rt:12:1
 same-length-3 : tie.Need-same-length-3
 same-length-3 c = search needs
 
--- src/lib.rt:12:1
 returns-3 : tie.Need-returns-3
 returns-3 c =
     let l = c .before .before .before .before .before .before .before .before .before .before .before .args .img .now in

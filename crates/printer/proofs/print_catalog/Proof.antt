@@ -1,3 +1,4 @@
+-- `printer::print_catalog` meets its contract.
 use Prim.Native.Nat.{_*_, _-_, _≤_}
 use mathlib.Core.Path.{_≡_}
 use lib.ListN.{length}
@@ -16,43 +17,33 @@ Inv-loop img page₀ offset₀ counter₀ page offset counter = (length page ≡
 abbrev μ-loop : tie.MeasureT-loop
 μ-loop img page₀ offset₀ counter₀ page offset counter = 64 - counter
 
--- src/lib.rt:17:20
 large-buffer-requires : tie.Need-large-buffer-requires Inv-loop μ-loop
 large-buffer-requires c κs = search needs
 
--- src/lib.rt:19:5
 loop-holds : tie.Need-loop-holds Inv-loop μ-loop
 loop-holds c = search needs
 
--- src/lib.rt:20:45
 slice-aggregate-print-page : tie.Need-slice-aggregate-print-page Inv-loop μ-loop
 slice-aggregate-print-page c = search needs
 
--- src/lib.rt:20:13
 print-page-requires : tie.Need-print-page-requires Inv-loop μ-loop
 print-page-requires c κs = search needs
 
--- src/lib.rt:22:13
 returns : tie.Need-returns Inv-loop μ-loop
 returns c = search needs
 
--- src/lib.rt:24:9
 add-offset : tie.Need-add-offset Inv-loop μ-loop
 add-offset c = search needs
 
--- src/lib.rt:19:9
 add-counter : tie.Need-add-counter Inv-loop μ-loop
 add-counter c = search needs
 
--- src/lib.rt:19:5
 loop-less : tie.Need-loop-less Inv-loop μ-loop
 loop-less c = search needs
 
--- src/lib.rt:19:5
 loop-again : tie.Need-loop-again Inv-loop μ-loop
 loop-again c = search needs
 
--- src/lib.rt:16:1
 returns-2 : tie.Need-returns-2 Inv-loop μ-loop
 returns-2 c = search needs
 
