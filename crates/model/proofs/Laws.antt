@@ -43,4 +43,3 @@ pub mod Sequence
 pub mod Exactly
 pub mod Roles
 pub mod Twice
-pub mod Example

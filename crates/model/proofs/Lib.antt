@@ -1,9 +1,7 @@
--- The laws that the proofs of every crate may cite, and the tables of worked cases and traps.
+-- The laws that the proofs of every crate may cite, and the shapes of document 01 at examples.
 pub mod ByteLaws
 pub mod BitLaws
 pub mod SumLaws
 pub mod RefusalLaws
-pub mod Computing
-pub mod Cases
-pub mod Traps
+pub mod Shapes
 pub mod Laws

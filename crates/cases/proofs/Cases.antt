@@ -6,18 +6,18 @@ use mathlib.Core.List.{List, [], _∷_, _++_}
 use mathlib.Core.Bool.{Bool, true, false}
 use lib.ListN.{length}
 use lib.Dec.{eqb}
 use Rattle.model.specs.Bytes.{Bytes, view, zeros, is, sum, run}
 use Rattle.model.specs.Refusals.{Outcome}
 use Rattle.model.specs.Calls.{Nothing}
 use Rattle.model.specs.Format.{format}
 use Rattle.model.specs.Create.{create}
 use Rattle.model.specs.Destroy.{destroy}
 use Rattle.model.specs.Info.{space}
 use Rattle.model.specs.Read.{Filled, read}
 use Rattle.model.specs.Write.{write}
 use Rattle.model.specs.SetEof.{setEof}
 use Rattle.model.specs.declared.Stamp.{Stamp}
-use Rattle.model.proofs.Computing.{computing}
+use Rattle.cases.proofs.Computing.{computing}
 
 infix 45 _says_
 -- A row: what is computed, and what document 01 says.

@@ -3,13 +3,13 @@ use Prim.Native.Nat.{ℕ, _+_, _*_}
 use mathlib.Core.Path.{_≡_, refl}
 use mathlib.Core.List.{List, [], _∷_}
 use mathlib.Core.Bool.{Bool, true}
 use Rattle.model.specs.Bytes.{Bytes, put, putWord}
 use Rattle.model.specs.Map.{given}
 use Rattle.model.specs.Refusals.{Outcome}
 use Rattle.model.specs.Calls.{Nothing}
 use Rattle.model.specs.Catalog.{catalog, decimalBefore, hexDigit, text, line, firstLine, listing, refusedLine, tooLargeLine}
-use Rattle.model.proofs.Computing.{computing}
-use Rattle.model.proofs.Cases.{_says_, all, LOG, D1, fresh, makeFile, writeTo, readFrom, setEofOf, two, three, unused, abc, counting, after2, cases}
+use Rattle.cases.proofs.Computing.{computing}
+use Rattle.cases.proofs.Cases.{_says_, all, LOG, D1, fresh, makeFile, writeTo, readFrom, setEofOf, two, three, unused, abc, counting, after2, cases}
 
 -- Old bytes past EOF: LOG has ABC; EOF 1, then EOF 3 again, or one byte more written: B and C do not come back.
 oldBytes : Bytes → List Bool

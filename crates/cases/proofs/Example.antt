@@ -8,28 +8,28 @@ use mathlib.Core.Bool.{Bool, true}
 use lib.Dec.{ltb}
 use native.Mathlib.Omega.{arith}
 use borrow.Author.Tests.{ltb-true}
 use Rattle.model.specs.Bytes.{Bytes, Octets, view, zeros, count, _and_}
 use Rattle.model.specs.Names.{parts}
 use Rattle.model.specs.Map.{mapBlocks, free}
 use Rattle.model.specs.Directory.{Sort, file, directory, sort, at, volume, mapPlace, key, used, chain, kids}
 use Rattle.model.specs.File.{nodes, blocks, content}
 use Rattle.model.specs.Sound.{sound}
 use Rattle.model.specs.Calls.{target, spot}
 use Rattle.model.specs.Format.{formatNumber}
 use Rattle.model.specs.Create.{Wanted, create}
 use Rattle.model.specs.Destroy.{destroy}
-use Rattle.model.proofs.Cases.{cases, fresh, stamp, site7, LOG, DAYS, D1, abc, makeFile, makeDirectory, writeTo}
+use Rattle.cases.proofs.Cases.{cases, fresh, stamp, site7, LOG, DAYS, D1, abc, makeFile, makeDirectory, writeTo}
 use Rattle.model.proofs.Laws.Total.{total, reach}
 use Rattle.model.proofs.Laws.Sound.{and-left, and-right, deep, top}
 use Rattle.model.proofs.Laws.Facts.{Seen}
 use Rattle.model.proofs.Laws.One.{Kept}
 use Rattle.model.proofs.Laws.Destroy.{destroy-sound, destroy-others}
 use Rattle.model.proofs.Laws.Octet.{format-octets}
 use Rattle.model.proofs.Laws.Format.{format-sound}
 use Rattle.model.proofs.Laws.Sequence.{Call, creating, all-after, AllLent, calls-sound}
 use Rattle.model.proofs.Laws.Exactly.{Given, createTable, create-exactly}
 use Rattle.model.proofs.Laws.Roles.{leaves, Role, folder, body, unused, HasRole, one-role, past-free}
 use Rattle.model.proofs.Laws.Twice.{passed, passedFrom, passedBlocks, block-once}
 
 abbrev pub plain : Wanted
 plain = record { kind = 1; ftype = 0x04; aux = 0; stamp = stamp }
