@@ -1,0 +1,3 @@
+-- What leads to an entry, and what calls leave of it.
+pub mod TextLaws
+pub mod PathLaws

@@ -1,0 +1,51 @@
+-- The way to an entry and the names along it. On a sound volume the names along the way to an entry are its path.
+use Prim.Native.Nat.{ℕ, _≤_}
+use mathlib.Core.Path.{_≡_}
+use mathlib.Core.List.{List, [], _∷_, map}
+use mathlib.Core.Bool.{Bool, true, false}
+use lib.Dec.{eqb}
+use Rattle.model.specs.Bytes.{Bytes, count}
+use Rattle.model.specs.Names.{Part, parts, capitals}
+use Rattle.model.specs.Directory.{sort, isActive, volume, kids}
+use Rattle.model.specs.Catalog.{text, nameText}
+
+-- The places xs lead from d down to s: each is an active entry of the directory before it, the last is s.
+abbrev pub Way : Bytes → ℕ → List ℕ → ℕ → Type 0
+Way v d [] s = d ≡ s
+Way v d (x ∷ xs) s = (1 ≤ count x (kids v d)) × (isActive (sort v x) ≡ true) × Way v x xs s
+
+-- the place before the last on a way from d
+unfoldable pub holder : ℕ → List ℕ → ℕ
+holder d [] = d
+holder d (x ∷ []) = d
+holder d (x ∷ y ∷ r) = holder x (y ∷ r)
+
+-- the names stored at places, the names of a path as capitals, and one such name
+abbrev pub Names : Type 0
+Names = List (List ℕ)
+
+abbrev pub stored : Bytes → List ℕ → Names
+stored v = map (nameText v)
+
+abbrev pub spelled : Bytes → Part → List ℕ
+spelled p x = text (capitals p) (x .start) (x .size)
+
+abbrev pub pathNames : Bytes → ℕ → Names
+pathNames p k = map (spelled p) (parts p k)
+
+-- the path of what a way from the volume leads to
+abbrev pub path : Bytes → List ℕ → Names
+path v xs = stored v (volume ∷ xs)
+
+-- the names ns of the places xs, where the place a gets the name q
+unfoldable pub replaced : ℕ → List ℕ → List ℕ → Names → Names
+replaced a q [] ns = ns
+replaced a q (x ∷ xs) [] = []
+replaced a q (x ∷ xs) (n ∷ ns) = elim (eqb x a) [ true ↦ q | false ↦ n ] ∷ replaced a q xs ns
+
+-- The path p of k bytes has the names along a way from the volume to s, an entry of d.
+pub record Spells (v p : Bytes) (k d s : ℕ) : Type 0 where
+  pub places : List ℕ
+  pub way : Way v volume places s
+  pub names : path v places ≡ pathNames p k
+  pub held : holder volume places ≡ d
