@@ -1,3 +1,5 @@
 -- What leads to an entry, and what calls leave of it.
 pub mod TextLaws
 pub mod PathLaws
+pub mod CarryLaws
+pub mod RelabelLaws
