@@ -3,3 +3,5 @@ pub mod TextLaws
 pub mod PathLaws
 pub mod CarryLaws
 pub mod RelabelLaws
+pub mod GoneLaws
+pub mod NewLaws
