@@ -18,7 +18,7 @@ use Rattle.model.proofs.Laws.Facts.{Seen, kid-seen, parent-directory, volume-se
 use Rattle.model.proofs.Laws.One.{Place, Step, one-volume, one-keeps, one-entry}
 use Rattle.model.proofs.Laws.Near.{named-near}
 use Rattle.model.proofs.Laws.Paths.{SameNames}
-use Rattle.paths.specs.Ways.{Way, stored, path, replaced}
+use Rattle.paths.specs.Ways.{Way, stored, path, replaced, WaysStay}
 use Rattle.paths.proofs.TextLaws.{near-text}
 
 -- the entries that are gone are on no way that is carried
@@ -40,6 +40,9 @@ pub carried-path : {n : ℕ} {v v′ : Bytes} {gone : ℕ → Type 0} {f : ℕ �
     → (xs : List ℕ) (s : ℕ) → Way v volume xs s → ((y : ℕ) → 1 ≤ count y xs → gone y → ⊥)
     → Way v′ volume xs s × (path v′ xs ≡ map f (volume ∷ xs))
 carried-path S C xs s w g = let R = carried S C xs volume s (volume-seen S) w g in (R .0, λ i. C .top i ∷ R .1 i)
+
+pub stay : {n : ℕ} {v w : Bytes} → Sound n v → Carries v w (λ _. ⊥) (nameText v) → WaysStay v w
+stay S C xs s way = carried-path S C xs s way (λ y c e. e)
 
 -- Where one entry a of a directory d changes, and what is asked of a itself.
 volume-name : (v v′ : Bytes) → Head v v′ volumeBlock → Named v v′ (at volume)

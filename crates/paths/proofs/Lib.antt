@@ -5,3 +5,4 @@ pub mod CarryLaws
 pub mod RelabelLaws
 pub mod GoneLaws
 pub mod NewLaws
+pub mod CallLaws

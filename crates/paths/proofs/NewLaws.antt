@@ -26,9 +26,9 @@ use Rattle.model.proofs.Laws.One.{Place, place, in-slot, in-count, in-link, Apa
 use Rattle.model.proofs.Laws.Extend.{Extends, grown-sound, grown-place, grown-kids, grown-free}
 use Rattle.model.proofs.Laws.Lookup.{Home}
 use Rattle.model.proofs.Laws.Near.{named-near}
-use Rattle.paths.specs.Ways.{Way, path}
+use Rattle.paths.specs.Ways.{WaysStay}
 use Rattle.paths.proofs.TextLaws.{near-text}
-use Rattle.paths.proofs.CarryLaws.{Carries, step-carries, carried-path}
+use Rattle.paths.proofs.CarryLaws.{Carries, step-carries, stay}
 
 -- An entry in the inactive slot a of the directory d, with the free block z.
 module _ {n : ℕ} {v : Bytes} {a d z : ℕ} (p : Bytes) (x : Part) (w : Wanted) (S : Sound n v) (P : Place v a d) (old : sort v a ≡ inactive)
@@ -111,3 +111,100 @@ module _ {n : ℕ} {v : Bytes} {a d y z : ℕ} (E : Extends n v a d y z) where
       (λ t c _. rw (grown-kids E) (omega (arith, sum-append (is t) (kids v a) (slots (z ∷ [])))))
       (λ e _. (rw (sort-named v grown a grown-name) e, near-text a (named-near grown-name)))
       (λ t _. refl)
+
+-- The first inactive slot.
+vacant-some : (v : Bytes) (ss : List ℕ) (s : ℕ) → vacant v ss ≡ some s → (1 ≤ count s ss) × (sort v s ≡ inactive)
+unfolding vacant sum
+vacant-some v [] s e = let z : _≡_ {A = ℕ} 0 1 = cc in absurd (omega arith)
+vacant-some v (t ∷ ss) s e = go (sort v t) refl e (vacant-some v ss s)
+  where
+    go : (K : Sort) → sort v t ≡ K → _≡_ {A = Option ℕ} (elim (isActive K) [ true ↦ vacant v ss | false ↦ some t ]) (some s)
+        → (vacant v ss ≡ some s → (1 ≤ count s ss) × (sort v s ≡ inactive)) → (1 ≤ is s t + count s ss) × (sort v s ≡ inactive)
+    go inactive f g r = let i : t ≡ s = cc in rw (← i) (omega (arith, is-self t), f)
+    go directory f g r = let h = r g in (omega (arith, h .0), h .1)
+    go improper f g r = let h = r g in (omega (arith, h .0), h .1)
+    go (file k) f g r = let h = r g in (omega (arith, h .0), h .1)
+
+vacant-none : (v : Bytes) (ss : List ℕ) → vacant v ss ≡ none → active v ss ≡ length ss
+unfolding vacant sum
+vacant-none v [] e = refl
+vacant-none v (t ∷ ss) e = go (sort v t) refl e (vacant-none v ss)
+  where
+    go : (K : Sort) → sort v t ≡ K → _≡_ {A = Option ℕ} (elim (isActive K) [ true ↦ vacant v ss | false ↦ some t ]) none
+        → (vacant v ss ≡ none → active v ss ≡ length ss) → live K + active v ss ≡ suc (length ss)
+    go inactive f g r = let z : _≡_ {A = ℕ} 0 1 = cc in absurd (omega arith)
+    go directory f g r = omega (arith, r g)
+    go improper f g r = omega (arith, r g)
+    go (file k) f g r = omega (arith, r g)
+
+-- a directory with no inactive slot has at most 4,681 blocks
+full-low : {n : ℕ} {v : Bytes} (S : Sound n v) (d : ℕ) → Seen v d → sort v d ≡ directory → vacant v (kids v d) ≡ none → used v d < 32767
+full-low {n} {v} S d h e f =
+    omega (
+      arith,
+      S .small,
+      directory-most S d h e,
+      vacant-none v (kids v d) f,
+      ap (length {A = ℕ}) (directory-kids v d e),
+      length-drop 1 (slots (chain v (key v d) (used v d))),
+      slots-length (chain v (key v d) (used v d)),
+      chain-length v (key v d) (used v d),
+    )
+
+-- In a directory d, k steps below the volume.
+module _ {n : ℕ} {v : Bytes} {d k : ℕ} (p : Bytes) (x : Part) (w : Wanted) (octets : Octets v) (S : Sound n v) (H : Home v d k) where
+  -- a vacant slot
+  slot-stay : (s : ℕ) → vacant v (kids v d) ≡ some s → 1 ≤ room mapPlace v n → WaysStay v (entered mapPlace v d s (lowest mapPlace v n) p x w)
+  slot-stay s e r =
+      let f = vacant-some v (kids v d) s e in
+      let l = room-lowest mapPlace v n r in
+      stay S (made-carries p x w S (place s d S (H .seen) (H .holds) (f .0)) (f .1) l (lowest-free mapPlace v n l))
+
+  -- a full subdirectory
+  module _ (e : vacant v (kids v d) ≡ none) (r : 2 ≤ room mapPlace v n) (below : d ≡ volume → ⊥) where
+    abbrev z : ℕ
+    z = lowest mapPlace v n
+
+    abbrev y : ℕ
+    y = lastBlock v 0 (key v d) (used v d)
+
+    abbrev g : Bytes
+    g = gained mapPlace v d y z
+
+    extends : Extends n v d (H .up below .0) y z
+    extends =
+        record {
+          octets = octets;
+          sound = S;
+          spot = H .up below .1;
+          kind = H .holds;
+          tail = refl;
+          low = full-low S d (H .seen) (H .holds) e;
+          inside = room-lowest mapPlace v n (omega arith);
+          spare = lowest-free mapPlace v n (room-lowest mapPlace v n (omega arith));
+        }
+
+    full-room : 1 ≤ room mapPlace g n
+    full-room =
+        omega (
+          arith,
+          room-one mapPlace g v z 1 n (λ b l. omega (arith, grown-free extends b l)) (room-lowest mapPlace v n (omega arith)),
+        )
+
+    full-stay : WaysStay v (entered mapPlace g d (z * 13) (lowest mapPlace g n) p x w)
+    full-stay xs s way =
+        let A = stay S (grown-carries extends) xs s way in
+        let P = grown-place extends (z * 13) (slots-first z) in
+        let l = room-lowest mapPlace g n full-room in
+        let B = stay (grown-sound extends) (made-carries p x w (grown-sound extends) (P .0) (P .1) l (lowest-free mapPlace g n l)) xs s (A .0) in
+        (B .0, B .1 ∙ A .1)
+
+  pub created-stay : (full v d ≡ true → d ≡ volume → ⊥) → createNeed v d ≤ room mapPlace v n → WaysStay v (created mapPlace n v d p x w)
+  unfolding created createdAt createNeed isFull
+  created-stay below r = go (vacant v (kids v d)) refl below r
+    where
+      go : (o : Option ℕ) → vacant v (kids v d) ≡ o → (isFull o ≡ true → d ≡ volume → ⊥)
+          → elim (isFull o) as (λ _. ℕ) [ true ↦ 2 | false ↦ 1 ] ≤ room mapPlace v n
+          → WaysStay v (createdAt o mapPlace n v d p x w)
+      go none e b r = full-stay e r (b refl)
+      go (some s) e b r = slot-stay s e r

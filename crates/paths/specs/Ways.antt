@@ -49,3 +49,10 @@ pub record Spells (v p : Bytes) (k d s : ℕ) : Type 0 where
   pub way : Way v volume places s
   pub names : path v places ≡ pathNames p k
   pub held : holder volume places ≡ d
+
+-- every way is as it was, with the names along it
+abbrev pub WayStays : Bytes → Bytes → List ℕ → ℕ → Type 0
+WayStays v w xs s = Way w volume xs s × (path w xs ≡ path v xs)
+
+abbrev pub WaysStay : Bytes → Bytes → Type 0
+WaysStay v w = (xs : List ℕ) (s : ℕ) → Way v volume xs s → WayStays v w xs s
