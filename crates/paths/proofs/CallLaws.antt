@@ -27,20 +27,36 @@ use Rattle.model.proofs.ByteLaws.{at-or-off}
 use Rattle.model.proofs.RefusalLaws.{settle-accepted, write-refused, set-eof-refused, rename-refused, set-info-refused}
 use Rattle.model.proofs.Laws.Sound.{and-right, and-both, Sound, sound-facts}
 use Rattle.model.proofs.Laws.Keep.{Keeps, blocks-same, content-same, eof-same}
+use Rattle.model.proofs.Laws.Facts.{volume-directory}
+use Rattle.model.proofs.Laws.One.{Place, file-directory}
+use Rattle.model.proofs.Laws.Relabel.{Relabels}
 use Rattle.model.proofs.Laws.Lookup.{rows-off, not-false, entry-led, open-led, target-led}
 use Rattle.model.proofs.Laws.Settled.{settled}
 use Rattle.model.proofs.Laws.Rename.{now-relabels}
 use Rattle.model.proofs.Laws.Destroy.{done, destroy-sound}
 use Rattle.model.proofs.Laws.Written.{write-done}
 use Rattle.model.proofs.Laws.Reset.{set-eof-done}
-use Rattle.paths.specs.Ways.{Way, path, replaced, WayStays, WaysStay}
+use Rattle.paths.specs.Ways.{Way, path, replaced, WayStays, WaysStay, Holds}
 use Rattle.paths.proofs.CarryLaws.{Carries, carried-path, stay, names-carry, renamedAt, renamed-all, replaced-off}
-use Rattle.paths.proofs.RelabelLaws.{set-carries, set-keeps, now-carries, now-keeps, after-carries}
+use Rattle.paths.proofs.RelabelLaws.{marks-keep, set-carries, set-keeps, now-carries, after-carries}
 use Rattle.paths.proofs.GoneLaws.{gone-carries, gone-off}
 use Rattle.paths.proofs.NewLaws.{created-stay}
 
 ways-self : (v : Bytes) → WaysStay v v
 ways-self v xs s w = (w, refl)
+
+holds-self : (v : Bytes) (s : ℕ) → Holds v v s
+holds-self v s = record { sorted = refl; ends = refl; owns = refl; bytes = λ b i c l. refl; reads = refl }
+
+keeps-hold : {v w : Bytes} {s : ℕ} → Keeps v w s → (h : ℕ) → sort v s ≡ file h → Holds v w s
+keeps-hold {v} {w} {s} K h e =
+    record {
+      sorted = K .sorted;
+      ends = eof-same v w s (K .slot);
+      owns = blocks-same v w s K;
+      bytes = λ b i c l. K .trees h e b c i l;
+      reads = content-same v w s K h e;
+    }
 
 -- Create.
 module _ (len : ℕ) (v p : Bytes) (k : ℕ) (w : Wanted) (octets : Octets v) (S : sound (total len) v ≡ true) where
@@ -70,15 +86,25 @@ module _ (len : ℕ) (v p : Bytes) (k : ℕ) (octets : Octets v) (S : sound (tot
 
 -- Set info.
 module _ (len : ℕ) (v p : Bytes) (k access aux : ℕ) (t : Stamp) (S : sound (total len) v ≡ true) where
-  pub set-info-ways : WaysStay v (setInfo len v p k access aux t .image)
-  unfolding setInfo setInfoNumber
-  set-info-ways =
-      settled _ _ v _ _ (WaysStay v) (ways-self v)
-      (λ e.
+  info-place : setInfoNumber len v p k access (target v p k) ≡ 0 → Place v (spot (target v p k)) (home (target v p k))
+  unfolding setInfoNumber
+  info-place e =
       let facts = sound-facts (total len) v S in
       let r = rows-off _ e refl in
-      let E = entry-led facts (target-led facts p k) (r 4) (r 5) (r 6) (eqb-false (spot (target v p k)) volume (r 7)) in
-      stay facts (set-carries access aux t facts (E .spot)))
+      entry-led facts (target-led facts p k) (r 4) (r 5) (r 6) (eqb-false (spot (target v p k)) volume (r 7)) .spot
+
+  pub set-info-ways : WaysStay v (setInfo len v p k access aux t .image)
+  unfolding setInfo
+  set-info-ways =
+      settled _ _ v _ _ (WaysStay v) (ways-self v)
+      (λ e. let facts = sound-facts (total len) v S in stay facts (set-carries access aux t facts (info-place e)))
+
+  -- the file that it names
+  pub set-info-holds : (h : ℕ) → sort v (spot (target v p k)) ≡ file h → Holds v (setInfo len v p k access aux t .image) (spot (target v p k))
+  unfolding setInfo
+  set-info-holds h f =
+      settled _ _ v _ _ (λ w. Holds v w (spot (target v p k))) (holds-self v (spot (target v p k)))
+      (λ e. keeps-hold (set-keeps access aux t (sound-facts (total len) v S) (info-place e)) h f)
 
 -- Write.
 module _ (len : ℕ) (v p : Bytes) (k pos : ℕ) (buffer : Bytes) (size : ℕ) (t : Stamp) (octets : Octets v) (lent : Octets buffer)
@@ -105,23 +131,30 @@ module _ (len : ℕ) (v p : Bytes) (k : ℕ) (q : Bytes) (j : ℕ) (S : sound (t
   abbrev new : List ℕ
   new = text (capitals q) 0 j
 
+  -- an entry that is not refused
+  labels : renameNumber len v p k q j (target v p k) ≡ 0 → (a ≡ volume → ⊥)
+      → Relabels (total len) v (renamed v a q j) a (home (target v p k))
+  unfolding renameNumber
+  labels e z =
+      let facts = sound-facts (total len) v S in
+      let r = rows-off _ e refl in
+      let E = entry-led facts (target-led facts p k) (r 3) (r 4) (r 5) z in
+      now-relabels q j facts (E .spot) (E .alive) (and-right _ _ (not-false _ (r 2))) (open-name (r 6))
+    where
+      open-name : nameTaken v (home (target v p k)) a q j ≡ false → isOther a (seek v q (part 0 j) (kids v (home (target v p k)))) ≡ false
+      open-name f = unfold nameTaken _and_ in (rw (ne-eqb a volume z) at f)
+
   carries : renameNumber len v p k q j (target v p k) ≡ 0 → Carries v (renamed v a q j) (λ _. ⊥) (renamedAt v a new)
   unfolding renameNumber
   carries e =
       let facts = sound-facts (total len) v S in
-      let r = rows-off _ e refl in
-      let proper : properName q 0 j ≡ true = and-right _ _ (not-false _ (r 2)) in
+      let proper : properName q 0 j ≡ true = and-right _ _ (not-false _ (rows-off _ e refl 2)) in
       at-or-off a volume
       (λ z. rw (whole z) (rw z (after-carries q j facts proper)))
-      (λ z.
-      let E = entry-led facts (target-led facts p k) (r 3) (r 4) (r 5) z in
-      now-carries q j facts (E .spot) proper (now-relabels q j facts (E .spot) (E .alive) proper (open-name z (r 6))))
+      (λ z. now-carries q j proper (labels e z))
     where
       whole : a ≡ volume → renamed v a q j ≡ named v (at volume) q j
       whole z = unfold renamed in rw (eq-eqb a volume z, renamed) refl
-
-      open-name : (a ≡ volume → ⊥) → nameTaken v (home (target v p k)) a q j ≡ false → isOther a (seek v q (part 0 j) (kids v (home (target v p k)))) ≡ false
-      open-name z f = unfold nameTaken _and_ in (rw (ne-eqb a volume z) at f)
 
   rename-image : rename len v p k q j .number ≡ 0 → rename len v p k q j .image ≡ renamed v a q j
   unfolding rename settle
@@ -136,3 +169,19 @@ module _ (len : ℕ) (v p : Bytes) (k : ℕ) (q : Bytes) (j : ℕ) (S : sound (t
   rename-ways e xs s w =
       let R = carried-path (sound-facts (total len) v S) (rename-carries e) xs s w (λ y c i. i) in
       (R .0, R .1 ∙ renamed-all v a new (volume ∷ xs))
+
+  -- a way on which the place is not
+  pub rename-stays : (xs : List ℕ) (s : ℕ) → count a (volume ∷ xs) ≡ 0 → Way v volume xs s → WayStays v (rename len v p k q j .image) xs s
+  rename-stays xs s c w =
+      at-or-off (rename len v p k q j .number) 0
+      (λ e. let R = rename-ways e xs s w in (R .0, R .1 ∙ replaced-off a new v (volume ∷ xs) c))
+      (λ n. rw (rename-refused len v p k q j n .1) (w, refl))
+
+  -- the file that is renamed
+  pub rename-holds : (h : ℕ) → sort v a ≡ file h → Holds v (rename len v p k q j .image) a
+  unfolding rename
+  rename-holds h f =
+      settled _ _ v _ _ (λ w. Holds v w a) (holds-self v a)
+      (λ e.
+      let R = labels e (λ z. file-directory (sym f ∙ rw z (volume-directory (sound-facts (total len) v S)))) in
+      keeps-hold (marks-keep (R .marks) (R .sorted)) h f)

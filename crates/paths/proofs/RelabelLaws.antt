@@ -82,8 +82,10 @@ module _ {n : ℕ} {v : Bytes} {a d : ℕ} (access aux : ℕ) (t : Stamp) (S : S
   set-carries = marks-carry set-marks (sort-named v set a set-name) (near-text a (named-near set-name)) (λ y _. refl)
 
 -- Rename of an entry.
-module _ {n : ℕ} {v : Bytes} {a d : ℕ} (q : Bytes) (j : ℕ) (S : Sound n v) (P : Place v a d) (proper : properName q 0 j ≡ true)
-    (R : Relabels n v (renamed v a q j) a d) where
+module _ {n : ℕ} {v : Bytes} {a d : ℕ} (q : Bytes) (j : ℕ) (proper : properName q 0 j ≡ true) (R : Relabels n v (renamed v a q j) a d) where
+  open Relabels R using (marks, sorted)
+  open Marks marks using (sound as S, spot as P)
+
   abbrev now : Bytes
   now = renamed v a q j
 
@@ -110,12 +112,9 @@ module _ {n : ℕ} {v : Bytes} {a d : ℕ} (q : Bytes) (j : ℕ) (S : Sound n v)
   now-name i l =
       now-is (at a + i) (λ e. omega arith) ∙ header-out (at a + i) (off-header i (omega arith)) ∙ paste-at v (at a) 16 _ i l
 
-  pub now-keeps : Keeps v now a
-  now-keeps = marks-keep (R .marks) (R .sorted)
-
   pub now-carries : Carries v now (λ _. ⊥) (renamedAt v a (text (capitals q) 0 j))
   now-carries =
-      marks-carry (R .marks) (R .sorted)
+      marks-carry marks sorted
       (bears-text now a q (part 0 j) (stored now (at a) q (part 0 j) (v (at a) / 16) (name-size q 0 j proper) now-name .0)
       ∙ sym (given-name v a (text (capitals q) 0 j)))
       (other-name v a (text (capitals q) 0 j))

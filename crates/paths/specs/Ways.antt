@@ -1,12 +1,13 @@
 -- The way to an entry and the names along it. On a sound volume the names along the way to an entry are its path.
-use Prim.Native.Nat.{ℕ, _≤_}
+use Prim.Native.Nat.{ℕ, _+_, _*_, _≤_, _<_}
 use mathlib.Core.Path.{_≡_}
 use mathlib.Core.List.{List, [], _∷_, map}
 use mathlib.Core.Bool.{Bool, true, false}
 use lib.Dec.{eqb}
 use Rattle.model.specs.Bytes.{Bytes, count}
 use Rattle.model.specs.Names.{Part, parts, capitals}
-use Rattle.model.specs.Directory.{sort, isActive, volume, kids}
+use Rattle.model.specs.Directory.{sort, isActive, volume, eof, kids}
+use Rattle.model.specs.File.{blocks, content}
 use Rattle.model.specs.Catalog.{text, nameText}
 
 -- The places xs lead from d down to s: each is an active entry of the directory before it, the last is s.
@@ -56,3 +57,11 @@ WayStays v w xs s = Way w volume xs s × (path w xs ≡ path v xs)
 
 abbrev pub WaysStay : Bytes → Bytes → Type 0
 WaysStay v w = (xs : List ℕ) (s : ℕ) → Way v volume xs s → WayStays v w xs s
+
+-- What the file at s holds is as it was: its kind, its EOF, the blocks that it owns, their bytes, and the bytes that are read.
+pub record Holds (v w : Bytes) (s : ℕ) : Type 0 where
+  pub sorted : sort w s ≡ sort v s
+  pub ends : eof w s ≡ eof v s
+  pub owns : blocks w s ≡ blocks v s
+  pub bytes : (b i : ℕ) → 1 ≤ count b (blocks v s) → i < 512 → w (b * 512 + i) ≡ v (b * 512 + i)
+  pub reads : content w s ≡ content v s
