@@ -6,3 +6,4 @@ pub mod RelabelLaws
 pub mod GoneLaws
 pub mod NewLaws
 pub mod CallLaws
+pub mod KeptLaws
