@@ -7,3 +7,4 @@ pub mod GoneLaws
 pub mod NewLaws
 pub mod CallLaws
 pub mod KeptLaws
+pub mod WayLaws
