@@ -30,20 +30,25 @@ use Rattle.model.proofs.Laws.Sequence.{Call, creating, destroying, renaming, in
 use Rattle.paths.specs.Ways.{Way, Names, stored, path, pathNames, replaced, Spells, WayStays, WaysStay}
 use Rattle.paths.proofs.CarryLaws.{replaced-off}
 use Rattle.paths.proofs.PathLaws.{path-spells, spells-path}
+use Rattle.paths.proofs.WayLaws.{path-on}
 use Rattle.paths.proofs.CallLaws.{create-ways, destroy-ways, set-info-ways, write-ways, set-eof-ways, rename-ways, rename-stays}
 
--- What a path has to say after a call: the names along the same way.
-led : (n : ℕ) {v : Bytes} (w : Bytes) → sound n w ≡ true → (o : Bytes) (i d s : ℕ) (W : Spells v o i d s) (p : Bytes) (k : ℕ)
-    → Way w volume (W .places) s → path w (W .places) ≡ pathNames p k → target w p k ≡ there d s
-led n w S o i d s W p k way e = spells-path n w S p k d s (record { places = W .places; way = way; names = e; held = W .held })
+-- A path leads to s along the way xs. Where that is still a way to s, a path with the names along it leads there.
+module _ (n : ℕ) (v w : Bytes) (S : sound n v ≡ true) (S′ : sound n w ≡ true) (o : Bytes) (i d s : ℕ) (e : target v o i ≡ there d s) where
+  led : (xs : List ℕ) → Way v volume xs s → Way w volume xs s → (p : Bytes) (k : ℕ) → (path v xs ≡ pathNames o i → path w xs ≡ pathNames p k)
+      → target w p k ≡ there d s
+  led xs a b p k f =
+      let P = path-on n v S o i d s e xs a in
+      spells-path n w S′ p k d s (record { places = xs; way = b; names = f (P .0); held = P .1 })
 
-still-led : (n : ℕ) {v : Bytes} (w : Bytes) → sound n w ≡ true → (o : Bytes) (i d s : ℕ) (W : Spells v o i d s) → WayStays v w (W .places) s
-    → target w o i ≡ there d s
-still-led n w S o i d s W R = led n w S o i d s W o i (R .0) (R .1 ∙ W .names)
+  still-led : (xs : List ℕ) → Way v volume xs s → WayStays v w xs s → target w o i ≡ there d s
+  still-led xs a R = led xs a (R .0) o i (λ f. R .1 ∙ f)
 
 all-led : (n : ℕ) (v w : Bytes) → sound n v ≡ true → sound n w ≡ true → WaysStay v w → (o : Bytes) (i d s : ℕ) → target v o i ≡ there d s
     → target w o i ≡ there d s
-all-led n v w S S′ R o i d s e = let W = path-spells n v S o i d s e in still-led n w S′ o i d s W (R (W .places) s (W .way))
+all-led n v w S S′ R o i d s e =
+    let W = path-spells n v S o i d s e in
+    still-led n v w S S′ o i d s e (W .places) (W .way) (R (W .places) s (W .way))
 
 -- Each call.
 pub create-path : (len : ℕ) (v p : Bytes) (k : ℕ) (w : Wanted) → Octets v → sound (total len) v ≡ true
@@ -54,7 +59,7 @@ pub destroy-path : (len : ℕ) (v p : Bytes) (k : ℕ) → Octets v → sound (t
     → (o : Bytes) (i d s : ℕ) → (s ≡ spot (target v p k) → ⊥) → target v o i ≡ there d s → target (destroy len v p k .image) o i ≡ there d s
 destroy-path len v p k b S o i d s n e =
     let W = path-spells (total len) v S o i d s e in
-    still-led (total len) _ (destroy-sound len v p k b S) o i d s W (destroy-ways len v p k b S (W .places) s n (W .way))
+    still-led (total len) v _ S (destroy-sound len v p k b S) o i d s e (W .places) (W .way) (destroy-ways len v p k b S (W .places) s n (W .way))
 
 pub set-info-path : (len : ℕ) (v p : Bytes) (k access aux : ℕ) (t : Stamp) → sound (total len) v ≡ true
     → (o : Bytes) (i d s : ℕ) → target v o i ≡ there d s → target (setInfo len v p k access aux t .image) o i ≡ there d s
@@ -71,19 +76,19 @@ set-eof-path len v p k e t b S = all-led (total len) v _ S (set-eof-sound len v 
 
 module _ (len : ℕ) (v p : Bytes) (k : ℕ) (q : Bytes) (j : ℕ) (S : sound (total len) v ≡ true) where
   -- what is renamed is not on the way
-  pub rename-path : (o : Bytes) (i d s : ℕ) (W : Spells v o i d s) → count (spot (target v p k)) (volume ∷ W .places) ≡ 0
-      → target (rename len v p k q j .image) o i ≡ there d s
-  rename-path o i d s W c =
-      still-led (total len) _ (rename-sound len v p k q j S) o i d s W (rename-stays len v p k q j S (W .places) s c (W .way))
+  pub rename-path : (o : Bytes) (i d s : ℕ) → target v o i ≡ there d s → (xs : List ℕ) → Way v volume xs s
+      → count (spot (target v p k)) (volume ∷ xs) ≡ 0 → target (rename len v p k q j .image) o i ≡ there d s
+  rename-path o i d s e xs w c =
+      still-led (total len) v _ S (rename-sound len v p k q j S) o i d s e xs w (rename-stays len v p k q j S xs s c w)
 
   -- it is: the path with that one name replaced leads there
-  pub rename-new-path : rename len v p k q j .number ≡ 0 → (o : Bytes) (i d s : ℕ) (W : Spells v o i d s) (o′ : Bytes) (i′ : ℕ)
-      → pathNames o′ i′ ≡ replaced (spot (target v p k)) (text (capitals q) 0 j) (volume ∷ W .places) (pathNames o i)
+  pub rename-new-path : rename len v p k q j .number ≡ 0 → (o : Bytes) (i d s : ℕ) → target v o i ≡ there d s → (xs : List ℕ) → Way v volume xs s
+      → (o′ : Bytes) (i′ : ℕ) → pathNames o′ i′ ≡ replaced (spot (target v p k)) (text (capitals q) 0 j) (volume ∷ xs) (pathNames o i)
       → target (rename len v p k q j .image) o′ i′ ≡ there d s
-  rename-new-path e o i d s W o′ i′ f =
-      let R = rename-ways len v p k q j S e (W .places) s (W .way) in
-      led (total len) _ (rename-sound len v p k q j S) o i d s W o′ i′ (R .0)
-      (R .1 ∙ ap (replaced (spot (target v p k)) (text (capitals q) 0 j) (volume ∷ W .places)) (W .names) ∙ sym f)
+  rename-new-path z o i d s e xs w o′ i′ f =
+      let R = rename-ways len v p k q j S z xs s w in
+      led (total len) v _ S (rename-sound len v p k q j S) o i d s e xs w (R .0) o′ i′
+      (λ g. R .1 ∙ ap (replaced (spot (target v p k)) (text (capitals q) 0 j) (volume ∷ xs)) g ∙ sym f)
 
 -- One after another: the names ns along the places ws after a call, and after calls.
 unfoldable pub namesAfter : ℕ → Call → Bytes → List ℕ → Names → Names
@@ -135,12 +140,12 @@ calls-way len (c ∷ cs) v l b S xs s u way =
 
 -- the path with those names leads to it
 pub calls-new-path : (len : ℕ) (cs : List Call) (v : Bytes) → AllLent cs → Octets v → sound (total len) v ≡ true
-    → (o : Bytes) (i d s : ℕ) (W : Spells v o i d s) → Unnamed len cs v s → (o′ : Bytes) (i′ : ℕ)
-    → pathNames o′ i′ ≡ allNamesAfter len cs v (volume ∷ W .places) (pathNames o i) → target (all-after len cs v) o′ i′ ≡ there d s
-calls-new-path len cs v l b S o i d s W u o′ i′ f =
-    let R = calls-way len cs v l b S (W .places) s u (W .way) in
-    led (total len) _ (calls-sound len cs v l b S .0) o i d s W o′ i′ (R .0)
-    (R .1 ∙ ap (allNamesAfter len cs v (volume ∷ W .places)) (W .names) ∙ sym f)
+    → (o : Bytes) (i d s : ℕ) → target v o i ≡ there d s → (xs : List ℕ) → Way v volume xs s → Unnamed len cs v s
+    → (o′ : Bytes) (i′ : ℕ) → pathNames o′ i′ ≡ allNamesAfter len cs v (volume ∷ xs) (pathNames o i) → target (all-after len cs v) o′ i′ ≡ there d s
+calls-new-path len cs v l b S o i d s e xs w u o′ i′ f =
+    let R = calls-way len cs v l b S xs s u w in
+    led (total len) v _ S (calls-sound len cs v l b S .0) o i d s e xs w (R .0) o′ i′
+    (λ g. R .1 ∙ ap (allNamesAfter len cs v (volume ∷ xs)) g ∙ sym f)
 
 -- a call renames no place among ws, and no call does when its turn comes
 abbrev pub Spares : Call → Bytes → List ℕ → Type 0
@@ -180,9 +185,10 @@ all-spared len [] v u ws h = refl
 all-spared len (c ∷ cs) v u ws h =
     ap (allNamesAfter len cs (after len c v) ws) (names-spared len c v u ws (h .0)) ∙ all-spared len cs (after len c v) u ws (h .1)
 
+-- and where none of them renames a place on the way, the same path does
 pub calls-path : (len : ℕ) (cs : List Call) (v : Bytes) → AllLent cs → Octets v → sound (total len) v ≡ true
-    → (o : Bytes) (i d s : ℕ) (W : Spells v o i d s) → Unnamed len cs v s → Unrenamed len cs v (volume ∷ W .places)
+    → (o : Bytes) (i d s : ℕ) → target v o i ≡ there d s → (xs : List ℕ) → Way v volume xs s → Unnamed len cs v s → Unrenamed len cs v (volume ∷ xs)
     → target (all-after len cs v) o i ≡ there d s
-calls-path len cs v l b S o i d s W u r =
-    calls-new-path len cs v l b S o i d s W u o i
-    (sym (W .names) ∙ sym (all-spared len cs v v (volume ∷ W .places) r) ∙ ap (allNamesAfter len cs v (volume ∷ W .places)) (W .names))
+calls-path len cs v l b S o i d s e xs w u r =
+    let R = calls-way len cs v l b S xs s u w in
+    still-led (total len) v _ S (calls-sound len cs v l b S .0) o i d s e xs w (R .0, R .1 ∙ all-spared len cs v v (volume ∷ xs) r)

@@ -5,7 +5,8 @@ use mathlib.Core.List.{List, [], _∷_, _++_, append-nil}
 use mathlib.Core.Bool.{true}
 use native.Mathlib.Omega.{arith}
 use Rattle.model.specs.Bytes.{Bytes, sum, count, is}
-use Rattle.model.specs.Directory.{directory, sort, isActive, volume, kids}
+use Rattle.model.specs.Directory.{directory, sort, isActive, volume, kids, there}
+use Rattle.model.specs.Calls.{target}
 use Rattle.model.specs.Sound.{sound}
 use Rattle.model.proofs.ByteLaws.{at-or-off}
 use Rattle.model.proofs.SumLaws.{is-self, is-eq}
@@ -13,7 +14,8 @@ use Rattle.model.proofs.BitLaws.{is-no}
 use Rattle.model.proofs.Laws.Total.{total, reach}
 use Rattle.model.proofs.Laws.Sound.{deep, top, Sound, sound-facts}
 use Rattle.model.proofs.Laws.Facts.{Seen, kid-seen, kid-proper, parent-directory, one-parent, volume-seen}
-use Rattle.paths.specs.Ways.{Way}
+use Rattle.paths.specs.Ways.{Way, holder, path, pathNames, Spells}
+use Rattle.paths.proofs.PathLaws.{path-spells}
 
 -- Some way: down the walk to where the entry is met.
 pick : (g : ℕ → ℕ) (ss : List ℕ) → 1 ≤ sum g ss → (y : ℕ) × (1 ≤ count y ss) × (1 ≤ g y)
@@ -94,3 +96,11 @@ one-way n v S s xs ys a b =
     let F = sound-facts n v S in
     let r = up-one F s _ _ (way-up F xs volume s [] (refl, refl) a) (way-up F ys volume s [] (refl, refl) b) in
     tail-same (sym (turned-back (volume ∷ xs)) ∙ ap (λ t. turned t []) r ∙ turned-back (volume ∷ ys))
+
+-- the names of the path to an entry are those along the way to it
+pub path-on : (n : ℕ) (v : Bytes) → sound n v ≡ true → (p : Bytes) (k d s : ℕ) → target v p k ≡ there d s → (xs : List ℕ) → Way v volume xs s
+    → (path v xs ≡ pathNames p k) × (holder volume xs ≡ d)
+path-on n v S p k d s e xs w =
+    let W = path-spells n v S p k d s e in
+    let i = one-way n v S s xs (W .places) w (W .way) in
+    (ap (path v) i ∙ W .names, ap (holder volume) i ∙ W .held)
