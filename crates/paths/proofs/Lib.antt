@@ -8,3 +8,4 @@ pub mod GoneLaws
 pub mod NewLaws
 pub mod CallLaws
 pub mod KeptLaws
+pub mod ExampleLaws
