@@ -1,5 +1,5 @@
 -- The theorems at work on the volume of case 2, made by its four calls: LOG with ABC, the directory DAYS, and in it D1. The way to D1 leads over
--- DAYS; DAYS is renamed to WEEK, LOG is destroyed, and calls follow one another.
+-- DAYS; no call on LOG changes its path, and when DAYS is renamed to WEEK its path has that name.
 use Prim.Native.Nat.{ℕ, zero, suc, _≤_, _<_}
 use mathlib.Core.Path.{_≡_, refl, sym, ap, _∙_}
 use mathlib.Core.List.{List, [], _∷_}
@@ -12,21 +12,23 @@ use Rattle.model.specs.Names.{capitals}
 use Rattle.model.specs.Directory.{Sort, file, sort, isActive, volume, kids, there}
 use Rattle.model.specs.Sound.{sound}
 use Rattle.model.specs.Calls.{target, spot}
-use Rattle.model.specs.Format.{formatNumber}
+use Rattle.model.specs.Create.{create}
 use Rattle.model.specs.Destroy.{destroy}
+use Rattle.model.specs.Write.{write}
+use Rattle.model.specs.SetEof.{setEof}
 use Rattle.model.specs.Rename.{headerNamed, renamed, isOther, nameTaken, renameNumber, rename}
 use Rattle.model.specs.Info.{infoSet, setInfoNumber, setInfo}
 use Rattle.model.specs.Catalog.{text}
 use Rattle.model.proofs.Cases.{cases, fresh, stamp, site7, days, d1, path, LOG, DAYS, D1, abc}
 use Rattle.model.proofs.Laws.Sound.{and-left, and-right}
-use Rattle.model.proofs.Laws.Format.{format-sound}
 use Rattle.model.proofs.Laws.Octet.{format-octets}
 use Rattle.model.proofs.Laws.Sequence.{Call, creating, writing, renaming, ending, all-after, AllLent, calls-sound}
 use Rattle.model.proofs.Laws.Example.{plain, nested, fresh-sound}
-use Rattle.paths.specs.Ways.{Way, Names, stored, holder, pathNames, replaced, Holds}
-use Rattle.paths.proofs.PathLaws.{spells-path}
+use Rattle.paths.specs.Ways.{Way, Names, stored, holder, pathNames, replaced, Spells, Holds}
+use Rattle.paths.proofs.PathLaws.{path-spells, spells-path}
+use Rattle.paths.proofs.WayLaws.{one-way}
 use Rattle.paths.proofs.CallLaws.{rename-holds, set-info-holds}
-use Rattle.paths.proofs.KeptLaws.{create-path, destroy-path, rename-path, rename-new-path, calls-path}
+use Rattle.paths.proofs.KeptLaws.{create-path, destroy-path, set-info-path, write-path, set-eof-path, rename-path, rename-new-path, calls-path}
 
 -- Names as bytes.
 bytes : List ℕ → Bool
@@ -90,6 +92,17 @@ case2-octets : Octets case2
 unfolding case2
 case2-octets = calls-sound 8192 four (fresh 16) four-lent fresh-octets fresh-sound .1
 
+-- the numbers of six calls on it
+abbrev pub numbersOf : Bytes → List ℕ
+numbersOf v =
+    destroy 8192 v (view LOG) 10 .number
+    ∷ rename 8192 v (view LOG) 10 (view note) 4 .number
+    ∷ create 8192 v (view NOTE) 11 plain .number
+    ∷ setInfo 8192 v (view LOG) 10 0x01 7 stamp .number
+    ∷ write 8192 v (view LOG) 10 3 abc 3 stamp .number
+    ∷ setEof 8192 v (view LOG) 10 600 stamp .number
+    ∷ []
+
 -- What is computed of it, at once.
 record Observed : Type 0 where
   days-in : ℕ
@@ -102,6 +115,7 @@ record Observed : Type 0 where
   days-at : ℕ
   week : ℕ
   note-at : ℕ
+  numbers : List ℕ
 
 unfoldable observed : Bytes → Observed
 observed v =
@@ -116,6 +130,7 @@ observed v =
       days-at = spot (target v (view DAYS) 11);
       week = rename 8192 v (view DAYS) 11 (view week) 4 .number;
       note-at = spot (target (rename 8192 v (view LOG) 10 (view note) 4 .image) (view NOTE) 11);
+      numbers = numbersOf v;
     }
 
 computed : observed case2
@@ -130,8 +145,9 @@ computed : observed case2
       days-at = 28;
       week = 0;
       note-at = 27;
+      numbers = 0 ∷ 0 ∷ 0 ∷ 0 ∷ 0 ∷ 0 ∷ [];
     }
-unfolding case2 observed cases text headerNamed renamed isOther nameTaken renameNumber rename
+unfolding case2 observed cases text headerNamed renamed isOther nameTaken renameNumber rename infoSet setInfoNumber setInfo
 computed = refl
 
 -- D1 is in slot 2 of block 8, in DAYS, which is in slot 3 of block 2. The names along this way are its path.
@@ -152,6 +168,37 @@ unfolding observed holder
 d1-path =
     spells-path 16 case2 case2-sound (view D1) 14 28 105
     (record { places = 28 ∷ 105 ∷ []; way = d1-way; names = ap (λ x. x .names) computed ∙ sym (spelt .0); held = refl })
+
+pub d1-spells : Spells case2 (view D1) 14 28 105
+d1-spells = path-spells 16 case2 case2-sound (view D1) 14 28 105 d1-path
+
+pub d1-only : (xs : List ℕ) → Way case2 volume xs 105 → xs ≡ 28 ∷ 105 ∷ []
+d1-only xs w = one-way 16 case2 case2-sound 105 xs (28 ∷ 105 ∷ []) w d1-way
+
+-- None of the calls that follow is refused.
+pub accepted : numbersOf case2 ≡ 0 ∷ 0 ∷ 0 ∷ 0 ∷ 0 ∷ 0 ∷ []
+unfolding observed
+accepted = ap (λ x. x .numbers) computed
+
+-- NOTE is created, LOG is written, gets another EOF, other access, another name: the path still leads to D1.
+pub d1-create : target (create 8192 case2 (view NOTE) 11 plain .image) (view D1) 14 ≡ there 28 105
+d1-create = create-path 8192 case2 (view NOTE) 11 plain case2-octets case2-sound (view D1) 14 28 105 d1-path
+
+pub d1-write : target (write 8192 case2 (view LOG) 10 3 abc 3 stamp .image) (view D1) 14 ≡ there 28 105
+d1-write =
+    write-path 8192 case2 (view LOG) 10 3 abc 3 stamp case2-octets (bytes-view (65 ∷ 66 ∷ 67 ∷ []) (lent .4)) case2-sound (view D1) 14 28 105 d1-path
+
+pub d1-eof : target (setEof 8192 case2 (view LOG) 10 600 stamp .image) (view D1) 14 ≡ there 28 105
+d1-eof = set-eof-path 8192 case2 (view LOG) 10 600 stamp case2-octets case2-sound (view D1) 14 28 105 d1-path
+
+pub d1-info : target (setInfo 8192 case2 (view LOG) 10 0x01 7 stamp .image) (view D1) 14 ≡ there 28 105
+d1-info = set-info-path 8192 case2 (view LOG) 10 0x01 7 stamp case2-sound (view D1) 14 28 105 d1-path
+
+pub d1-note : target (rename 8192 case2 (view LOG) 10 (view note) 4 .image) (view D1) 14 ≡ there 28 105
+unfolding observed sum
+d1-note =
+    rename-path 8192 case2 (view LOG) 10 (view note) 4 case2-sound (view D1) 14 28 105 d1-path (28 ∷ 105 ∷ []) d1-way
+    (rw (ap (λ x. x .log-at) computed) refl)
 
 -- LOG is destroyed: the path still leads to D1.
 pub d1-left : target (destroy 8192 case2 (view LOG) 10 .image) (view D1) 14 ≡ there 28 105
