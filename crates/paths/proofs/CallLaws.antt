@@ -1,31 +1,28 @@
 -- What each call leaves of the ways, of the names along them, and so of the paths; and that rename and set info keep the bytes of the file that
 -- they name.
-use Prim.Native.Nat.{ℕ, _≤_, _<_}
-use mathlib.Core.Path.{_≡_, refl, sym, ap, _∙_}
-use mathlib.Core.List.{List, [], _∷_}
-use mathlib.Core.Bool.{Bool, true, false, false≢true}
-use lib.Dec.{eqb}
-use native.Mathlib.Omega.{arith}
+use Prim.Native.Nat.{ℕ}
+use mathlib.Core.Path.{_≡_, refl, sym, _∙_}
+use mathlib.Core.List.{List, _∷_}
+use mathlib.Core.Bool.{true, false, false≢true}
 use borrow.Author.Tests.{eqb-false, eq-eqb, ne-eqb, ltb-false}
 use Rattle.model.specs.Bytes.{Bytes, Octets, count, _and_}
 use Rattle.model.specs.Names.{part, parts, capitals, properName}
 use Rattle.model.specs.Map.{room}
-use Rattle.model.specs.Directory.{sort, file, at, volume, mapBlock, kids, seek, there, eof}
-use Rattle.model.specs.File.{blocks, content}
+use Rattle.model.specs.Directory.{sort, file, at, volume, mapBlock, kids, seek}
 use Rattle.model.specs.Sound.{sound}
 use Rattle.model.specs.Refusals.{settle}
 use Rattle.model.specs.Calls.{total, target, home, spot, lastPart, nothing}
 use Rattle.model.specs.Create.{Wanted, createNeed, createNumber, create}
-use Rattle.model.specs.Destroy.{destroyNumber, destroy}
+use Rattle.model.specs.Destroy.{destroy}
 use Rattle.model.specs.Rename.{named, renamed, isOther, nameTaken, renameNumber, rename}
-use Rattle.model.specs.Info.{infoSet, setInfoNumber, setInfo}
+use Rattle.model.specs.Info.{setInfoNumber, setInfo}
 use Rattle.model.specs.Write.{write}
 use Rattle.model.specs.SetEof.{setEof}
 use Rattle.model.specs.Catalog.{text}
 use Rattle.model.specs.declared.Stamp.{Stamp}
 use Rattle.model.proofs.ByteLaws.{at-or-off}
-use Rattle.model.proofs.RefusalLaws.{settle-accepted, write-refused, set-eof-refused, rename-refused, set-info-refused}
-use Rattle.model.proofs.Laws.Sound.{and-right, and-both, Sound, sound-facts}
+use Rattle.model.proofs.RefusalLaws.{settle-accepted, write-refused, set-eof-refused, rename-refused}
+use Rattle.model.proofs.Laws.Sound.{and-right, and-both, sound-facts}
 use Rattle.model.proofs.Laws.Keep.{Keeps, blocks-same, content-same, eof-same}
 use Rattle.model.proofs.Laws.Facts.{volume-directory}
 use Rattle.model.proofs.Laws.One.{Place, file-directory}
@@ -33,7 +30,7 @@ use Rattle.model.proofs.Laws.Relabel.{Relabels}
 use Rattle.model.proofs.Laws.Lookup.{rows-off, not-false, entry-led, open-led, target-led}
 use Rattle.model.proofs.Laws.Settled.{settled}
 use Rattle.model.proofs.Laws.Rename.{now-relabels}
-use Rattle.model.proofs.Laws.Destroy.{done, destroy-sound}
+use Rattle.model.proofs.Laws.Destroy.{done}
 use Rattle.model.proofs.Laws.Written.{write-done}
 use Rattle.model.proofs.Laws.Reset.{set-eof-done}
 use Rattle.paths.specs.Ways.{Way, path, replaced, WayStays, WaysStay, Holds}

@@ -1,5 +1,5 @@
 -- What carries ways from one image to another: each entry on a way stays in its directory and active, and has the name that f says.
-use Prim.Native.Nat.{ℕ, _+_, _≤_}
+use Prim.Native.Nat.{ℕ, _≤_}
 use mathlib.Core.Path.{_≡_, refl, sym, ap, _∙_}
 use mathlib.Core.List.{List, [], _∷_, map}
 use mathlib.Core.Bool.{Bool, true, false}
@@ -15,7 +15,7 @@ use Rattle.model.proofs.Laws.Frame.{Named}
 use Rattle.model.proofs.Laws.Sound.{Sound}
 use Rattle.model.proofs.Laws.Keep.{Head, head-name, kids-same}
 use Rattle.model.proofs.Laws.Facts.{Seen, kid-seen, parent-directory, volume-seen}
-use Rattle.model.proofs.Laws.One.{Place, Step, one-volume, one-keeps, one-entry}
+use Rattle.model.proofs.Laws.One.{Step, one-volume, one-keeps, one-entry}
 use Rattle.model.proofs.Laws.Near.{named-near}
 use Rattle.model.proofs.Laws.Paths.{SameNames}
 use Rattle.paths.specs.Ways.{Way, stored, path, replaced, WaysStay}

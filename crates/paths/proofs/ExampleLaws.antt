@@ -1,6 +1,6 @@
 -- The theorems at work on the volume of case 2, made by its four calls: LOG with ABC, the directory DAYS, and in it D1. The way to D1 leads over
 -- DAYS; no call on LOG changes its path, and when DAYS is renamed to WEEK its path has that name.
-use Prim.Native.Nat.{ℕ, zero, suc, _≤_, _<_}
+use Prim.Native.Nat.{ℕ, zero, suc}
 use mathlib.Core.Path.{_≡_, refl, sym, ap, _∙_}
 use mathlib.Core.List.{List, [], _∷_}
 use mathlib.Core.Bool.{Bool, true}

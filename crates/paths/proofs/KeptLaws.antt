@@ -1,5 +1,5 @@
 -- Paths after each call, and after calls one after another: what a path led to it still leads to, but for a new name of what was renamed on its way.
-use Prim.Native.Nat.{ℕ, _<_}
+use Prim.Native.Nat.{ℕ}
 use mathlib.Core.Path.{_≡_, refl, sym, ap, _∙_}
 use mathlib.Core.List.{List, [], _∷_}
 use mathlib.Core.Bool.{Bool, true, false}
@@ -27,7 +27,7 @@ use Rattle.model.proofs.Laws.Info.{set-info-sound}
 use Rattle.model.proofs.Laws.Written.{write-sound}
 use Rattle.model.proofs.Laws.Reset.{set-eof-sound}
 use Rattle.model.proofs.Laws.Sequence.{Call, creating, destroying, renaming, informing, asking, measuring, reading, writing, ending, Lent, after, names, call-right, all-after, AllLent, Unnamed, calls-sound}
-use Rattle.paths.specs.Ways.{Way, Names, stored, path, pathNames, replaced, Spells, WayStays, WaysStay}
+use Rattle.paths.specs.Ways.{Way, Names, stored, path, pathNames, replaced, WayStays, WaysStay}
 use Rattle.paths.proofs.CarryLaws.{replaced-off}
 use Rattle.paths.proofs.PathLaws.{path-spells, spells-path}
 use Rattle.paths.proofs.WayLaws.{path-on}

@@ -1,7 +1,7 @@
 -- Create: every way stays, also where a full subdirectory gains a block first.
-use Prim.Native.Nat.{ℕ, suc, _+_, _-_, _*_, _/_, _%_, _≤_, _<_}
+use Prim.Native.Nat.{ℕ, suc, _+_, _*_, _/_, _%_, _≤_, _<_}
 use mathlib.Core.Path.{_≡_, refl, sym, ap, _∙_}
-use mathlib.Core.List.{List, [], _∷_, _++_}
+use mathlib.Core.List.{List, [], _∷_}
 use mathlib.Core.Option.{Option, none, some}
 use mathlib.Core.Bool.{Bool, true, false, false≢true}
 use lib.Dec.{eqb}
@@ -12,17 +12,17 @@ use Rattle.model.specs.Names.{Part}
 use Rattle.model.specs.Map.{room, mapAt, free, taken, lowest}
 use Rattle.model.specs.Directory.{Sort, inactive, directory, improper, file, sort, isActive, live, at, volume, mapPlace, key, used, chain, slots, kids, active, vacant}
 use Rattle.model.specs.File.{blocks}
-use Rattle.model.specs.Create.{Wanted, directoryKind, entryBytes, subdirectoryHeader, lastBlock, gained, entered, createdAt, created, isFull, full, createNeed}
+use Rattle.model.specs.Create.{Wanted, directoryKind, subdirectoryHeader, lastBlock, gained, entered, createdAt, created, isFull, full, createNeed}
 use Rattle.model.specs.Catalog.{nameText}
-use Rattle.model.proofs.ByteLaws.{at-or-off, paste-out, putWord-out, putLong-out}
+use Rattle.model.proofs.ByteLaws.{paste-out, putWord-out, putLong-out}
 use Rattle.model.proofs.BitLaws.{mapAt-in, taken-out, room-one, room-lowest, lowest-free}
 use Rattle.model.proofs.SumLaws.{is-self, sum-append, count-none}
-use Rattle.model.proofs.Laws.Frame.{at-link, at-place, Named, last-in, chain-length, slots-length, slots-first}
+use Rattle.model.proofs.Laws.Frame.{at-place, Named, last-in, chain-length, slots-length, slots-first}
 use Rattle.model.proofs.Laws.Sound.{mine, Sound}
 use Rattle.model.proofs.Laws.Keep.{directory-blocks, directory-kids, sort-named}
-use Rattle.model.proofs.Laws.Facts.{Seen, free-mine, mine-off, own-mine, seen-directory}
+use Rattle.model.proofs.Laws.Facts.{Seen, free-mine, mine-off, seen-directory}
 use Rattle.model.proofs.Laws.Most.{directory-most}
-use Rattle.model.proofs.Laws.One.{Place, place, in-slot, in-count, in-link, Apart, Step, leaf, inactive-directory, slot-mine}
+use Rattle.model.proofs.Laws.One.{Place, place, in-slot, in-count, in-link, Apart, leaf, inactive-directory, slot-mine}
 use Rattle.model.proofs.Laws.Extend.{Extends, grown-sound, grown-place, grown-kids, grown-free}
 use Rattle.model.proofs.Laws.Lookup.{Home}
 use Rattle.model.proofs.Laws.Near.{named-near}

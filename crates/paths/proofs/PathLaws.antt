@@ -1,19 +1,19 @@
 -- On a sound volume a path leads to an entry exactly when its names are those along the way to the entry.
 use Prim.Native.Nat.{ℕ, _≤_}
-use mathlib.Core.Path.{_≡_, refl, sym, ap, _∙_}
+use mathlib.Core.Path.{_≡_, refl, ap, _∙_}
 use mathlib.Core.List.{List, [], _∷_, map}
 use mathlib.Core.Option.{Option, none, some}
 use mathlib.Core.Bool.{Bool, true, false, false≢true}
 use native.Mathlib.Omega.{arith}
-use Rattle.model.specs.Bytes.{Bytes, count, _and_}
+use Rattle.model.specs.Bytes.{Bytes, count}
 use Rattle.model.specs.Names.{Part, parts, sameName}
-use Rattle.model.specs.Directory.{Sort, inactive, directory, improper, file, sort, isActive, isDirectory, at, volume, kids, seek, Target, noVolume, noDirectory, missing, there, last, along, lookup}
-use Rattle.model.specs.Calls.{total, target}
+use Rattle.model.specs.Directory.{Sort, inactive, directory, improper, file, sort, isActive, isDirectory, at, volume, kids, seek, Target, noVolume, noDirectory, there, last, along, lookup}
+use Rattle.model.specs.Calls.{target}
 use Rattle.model.specs.Catalog.{nameText}
 use Rattle.model.specs.Sound.{sound}
 use Rattle.model.proofs.ByteLaws.{at-or-off}
 use Rattle.model.proofs.Laws.Sound.{Sound, sound-facts}
-use Rattle.model.proofs.Laws.Facts.{Seen, kid-seen, parent-directory, seen-directory, volume-seen, volume-directory}
+use Rattle.model.proofs.Laws.Facts.{Seen, kid-seen, parent-directory, seen-directory, volume-seen}
 use Rattle.model.proofs.Laws.Spelling.{same-bears, bears-alike, twins-two}
 use Rattle.model.proofs.Laws.Lookup.{seek-some, seek-none}
 use Rattle.paths.specs.Ways.{Way, holder, Names, stored, spelled, path, Spells}

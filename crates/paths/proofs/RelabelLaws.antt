@@ -1,28 +1,25 @@
 -- Rename and set info of an entry: what it owns, its bytes and its slots stay, and so do all ways. Rename gives it the new name.
 use Prim.Native.Nat.{ℕ, _+_, _-_, _*_, _/_, _≤_, _<_}
-use mathlib.Core.Path.{_≡_, refl, sym, ap, _∙_}
-use mathlib.Core.List.{List, [], _∷_}
-use mathlib.Core.Bool.{Bool, true, false}
-use lib.Dec.{eqb}
+use mathlib.Core.Path.{_≡_, refl, sym, _∙_}
+use mathlib.Core.List.{List}
+use mathlib.Core.Bool.{true}
 use native.Mathlib.Omega.{arith}
-use native.Mathlib.Nat.{add-assoc}
-use borrow.Author.Tests.{ne-eqb, eq-eqb}
-use Rattle.model.specs.Bytes.{Bytes, count, put}
+use borrow.Author.Tests.{ne-eqb}
+use Rattle.model.specs.Bytes.{Bytes}
 use Rattle.model.specs.Names.{part, properName, capitals}
-use Rattle.model.specs.Directory.{Sort, inactive, directory, improper, file, sort, isActive, at, volume, volumeBlock, key, eof, kids}
-use Rattle.model.specs.File.{blocks, content}
+use Rattle.model.specs.Directory.{Sort, inactive, directory, improper, file, sort, at, volume, key}
 use Rattle.model.specs.Calls.{nameField}
 use Rattle.model.specs.Rename.{named, headerNamed, renamed}
 use Rattle.model.specs.Info.{infoSet}
 use Rattle.model.specs.Catalog.{text, nameText}
 use Rattle.model.specs.declared.Stamp.{Stamp}
 use Rattle.model.proofs.ByteLaws.{at-or-off, put-off, putWord-out, paste-out, paste-at}
-use Rattle.model.proofs.Laws.Frame.{at-off, at-link, at-block, at-inj, Named}
+use Rattle.model.proofs.Laws.Frame.{at-link, at-block, at-inj, Named}
 use Rattle.model.proofs.Laws.Sound.{Sound}
-use Rattle.model.proofs.Laws.Keep.{Keeps, sort-same, sort-named, kids-same, blocks-same, content-same, eof-same}
-use Rattle.model.proofs.Laws.Facts.{Seen, Placed, seen-placed, kid-placed, placed-proper, parent-directory, mine-apart, kid-block, volume-seen, volume-directory, directory-key}
+use Rattle.model.proofs.Laws.Keep.{Keeps, sort-named, kids-same}
+use Rattle.model.proofs.Laws.Facts.{Seen, Placed, seen-placed, kid-placed, placed-proper, parent-directory, mine-apart, kid-block}
 use Rattle.model.proofs.Laws.One.{Place, slot-head, file-directory}
-use Rattle.model.proofs.Laws.Spelling.{Bears, stored}
+use Rattle.model.proofs.Laws.Spelling.{stored}
 use Rattle.model.proofs.Laws.Relabel.{Marks, Relabels, marks-step}
 use Rattle.model.proofs.Laws.Near.{named-near}
 use Rattle.model.proofs.Laws.Lookup.{name-size}

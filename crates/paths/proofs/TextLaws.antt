@@ -1,7 +1,7 @@
 -- Names as lists of bytes: a name of a path is the name stored at a place exactly when their bytes are the same.
-use Prim.Native.Nat.{ℕ, zero, suc, _+_, _≤_, _<_}
+use Prim.Native.Nat.{ℕ, zero, suc, _+_, _<_}
 use mathlib.Core.Path.{_≡_, refl, sym, ap, _∙_}
-use mathlib.Core.List.{List, [], _∷_}
+use mathlib.Core.List.{_∷_}
 use mathlib.Core.Bool.{true}
 use lib.ListN.{length}
 use native.Mathlib.Omega.{arith}

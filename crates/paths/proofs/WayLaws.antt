@@ -5,7 +5,7 @@ use mathlib.Core.List.{List, [], _∷_, _++_, append-nil}
 use mathlib.Core.Bool.{true}
 use native.Mathlib.Omega.{arith}
 use Rattle.model.specs.Bytes.{Bytes, sum, count, is}
-use Rattle.model.specs.Directory.{directory, sort, isActive, volume, kids, there}
+use Rattle.model.specs.Directory.{sort, isActive, volume, kids, there}
 use Rattle.model.specs.Calls.{target}
 use Rattle.model.specs.Sound.{sound}
 use Rattle.model.proofs.ByteLaws.{at-or-off}
@@ -14,7 +14,7 @@ use Rattle.model.proofs.BitLaws.{is-no}
 use Rattle.model.proofs.Laws.Total.{total, reach}
 use Rattle.model.proofs.Laws.Sound.{deep, top, Sound, sound-facts}
 use Rattle.model.proofs.Laws.Facts.{Seen, kid-seen, kid-proper, parent-directory, one-parent, volume-seen}
-use Rattle.paths.specs.Ways.{Way, holder, path, pathNames, Spells}
+use Rattle.paths.specs.Ways.{Way, holder, path, pathNames}
 use Rattle.paths.proofs.PathLaws.{path-spells}
 
 -- Some way: down the walk to where the entry is met.
