@@ -20,15 +20,17 @@ use Rattle.model.specs.Rename.{headerNamed, renamed, isOther, nameTaken, rename
 use Rattle.model.specs.Info.{infoSet, setInfoNumber, setInfo}
 use Rattle.model.specs.Catalog.{text}
 use Rattle.model.proofs.Cases.{cases, fresh, stamp, site7, days, d1, path, LOG, DAYS, D1, abc}
-use Rattle.model.proofs.Laws.Sound.{and-left, and-right}
+use Rattle.model.proofs.Laws.Sound.{and-left, and-right, sound-facts}
+use Rattle.model.proofs.Laws.Facts.{volume-seen}
+use Rattle.model.proofs.Laws.One.{Kept}
 use Rattle.model.proofs.Laws.Octet.{format-octets}
-use Rattle.model.proofs.Laws.Sequence.{Call, creating, writing, renaming, ending, all-after, AllLent, calls-sound}
+use Rattle.model.proofs.Laws.Sequence.{Call, creating, writing, renaming, ending, all-after, AllLent, Unnamed, calls-sound}
 use Rattle.model.proofs.Laws.Example.{plain, nested, fresh-sound}
-use Rattle.paths.specs.Ways.{Way, Names, stored, holder, pathNames, replaced, Spells, Holds}
+use Rattle.paths.specs.Ways.{Way, Names, stored, path as names, holder, pathNames, replaced, Spells, Holds}
 use Rattle.paths.proofs.PathLaws.{path-spells, spells-path}
-use Rattle.paths.proofs.WayLaws.{one-way}
+use Rattle.paths.proofs.WayLaws.{one-way, way-seen}
 use Rattle.paths.proofs.CallLaws.{rename-holds, set-info-holds}
-use Rattle.paths.proofs.KeptLaws.{create-path, destroy-path, set-info-path, write-path, set-eof-path, rename-path, rename-new-path, calls-path}
+use Rattle.paths.proofs.KeptLaws.{create-path, destroy-path, set-info-path, write-path, set-eof-path, rename-path, rename-new-path, calls-path, allNamesAfter, calls-file}
 
 -- Names as bytes.
 bytes : List ℕ → Bool
@@ -109,6 +111,7 @@ record Observed : Type 0 where
   days-on : Bool
   d1-in : ℕ
   d1-on : Bool
+  d1-sort : Sort
   names : Names
   log-at : ℕ
   log-sort : Sort
@@ -124,6 +127,7 @@ observed v =
       days-on = isActive (sort v 28);
       d1-in = count 105 (kids v 28);
       d1-on = isActive (sort v 105);
+      d1-sort = sort v 105;
       names = stored v (volume ∷ 28 ∷ 105 ∷ []);
       log-at = spot (target v (view LOG) 10);
       log-sort = sort v 27;
@@ -139,6 +143,7 @@ computed : observed case2
       days-on = true;
       d1-in = 1;
       d1-on = true;
+      d1-sort = file 0;
       names = site7 ∷ days ∷ d1 ∷ [];
       log-at = 27;
       log-sort = file 0;
@@ -220,13 +225,31 @@ d1-week =
 abbrev two : List Call
 two = renaming (view LOG) 10 (view note) 4 ∷ ending (view NOTE) 11 600 stamp ∷ []
 
+two-lent : AllLent two
+two-lent = ((bytes-view LOG (lent .1), bytes-view note (lent .5)), (bytes-view NOTE (lent .6), tt))
+
+two-unnamed : Unnamed 8192 two case2 105
+unfolding observed
+two-unnamed = (λ e. omega (arith, ap (λ x. x .log-at) computed), (λ e. omega (arith, ap (λ x. x .note-at) computed), tt))
+
 pub d1-after : target (all-after 8192 two case2) (view D1) 14 ≡ there 28 105
 unfolding observed sum
 d1-after =
-    calls-path 8192 two case2 ((bytes-view LOG (lent .1), bytes-view note (lent .5)), (bytes-view NOTE (lent .6), tt)) case2-octets case2-sound
+    calls-path 8192 two case2 two-lent case2-octets case2-sound
     (view D1) 14 28 105 d1-path (28 ∷ 105 ∷ []) d1-way
-    (λ e. omega (arith, ap (λ x. x .log-at) computed), (λ e. omega (arith, ap (λ x. x .note-at) computed), tt))
+    two-unnamed
     (rw (ap (λ x. x .log-at) computed) refl, (tt, tt))
+
+-- D1 itself: its entry, blocks and bytes are kept, and so is the way.
+pub d1-file : let w = all-after 8192 two case2 in
+    Kept case2 w 105 × (xs : List ℕ) × Way case2 volume xs 105 × Way w volume xs 105
+    × (names w xs ≡ allNamesAfter 8192 two case2 (volume ∷ xs) (names case2 xs))
+unfolding observed
+d1-file =
+    calls-file 8192 two case2 two-lent case2-octets case2-sound 105 0
+    (way-seen (sound-facts 16 case2 case2-sound) (28 ∷ 105 ∷ []) volume 105 (volume-seen (sound-facts 16 case2 case2-sound)) d1-way)
+    (ap (λ x. x .d1-sort) computed)
+    two-unnamed
 
 -- What LOG holds stays as it gets another name, and other access.
 log-file : sort case2 (spot (target case2 (view LOG) 10)) ≡ file 0

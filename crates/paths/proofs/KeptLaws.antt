@@ -7,7 +7,7 @@ use lib.Dec.{eqb}
 use borrow.Author.Tests.{eq-eqb, ne-eqb}
 use Rattle.model.specs.Bytes.{Bytes, Octets, count}
 use Rattle.model.specs.Names.{capitals}
-use Rattle.model.specs.Directory.{volume, there}
+use Rattle.model.specs.Directory.{sort, file, volume, there}
 use Rattle.model.specs.Sound.{sound}
 use Rattle.model.specs.Calls.{total, target, spot}
 use Rattle.model.specs.Create.{Wanted, create}
@@ -20,17 +20,19 @@ use Rattle.model.specs.Catalog.{text}
 use Rattle.model.specs.declared.Stamp.{Stamp}
 use Rattle.model.proofs.ByteLaws.{at-or-off}
 use Rattle.model.proofs.RefusalLaws.{rename-refused, get-info-image, space-image, read-image}
+use Rattle.model.proofs.Laws.Facts.{Seen}
+use Rattle.model.proofs.Laws.One.{Kept}
 use Rattle.model.proofs.Laws.Created.{create-sound}
 use Rattle.model.proofs.Laws.Destroy.{destroy-sound}
 use Rattle.model.proofs.Laws.Rename.{rename-sound}
 use Rattle.model.proofs.Laws.Info.{set-info-sound}
 use Rattle.model.proofs.Laws.Written.{write-sound}
 use Rattle.model.proofs.Laws.Reset.{set-eof-sound}
-use Rattle.model.proofs.Laws.Sequence.{Call, creating, destroying, renaming, informing, asking, measuring, reading, writing, ending, Lent, after, names, call-right, all-after, AllLent, Unnamed, calls-sound}
+use Rattle.model.proofs.Laws.Sequence.{Call, creating, destroying, renaming, informing, asking, measuring, reading, writing, ending, Lent, after, names, call-right, all-after, AllLent, Unnamed, calls-sound, calls-kept}
 use Rattle.paths.specs.Ways.{Way, Names, stored, path, pathNames, replaced, WayStays, WaysStay}
 use Rattle.paths.proofs.CarryLaws.{replaced-off}
 use Rattle.paths.proofs.PathLaws.{path-spells, spells-path}
-use Rattle.paths.proofs.WayLaws.{path-on}
+use Rattle.paths.proofs.WayLaws.{some-way, path-on}
 use Rattle.paths.proofs.CallLaws.{create-ways, destroy-ways, set-info-ways, write-ways, set-eof-ways, rename-ways, rename-stays}
 
 -- A path leads to s along the way xs. Where that is still a way to s, a path with the names along it leads there.
@@ -192,3 +194,14 @@ pub calls-path : (len : ℕ) (cs : List Call) (v : Bytes) → AllLent cs → Oct
 calls-path len cs v l b S o i d s e xs w u r =
     let R = calls-way len cs v l b S xs s u w in
     still-led (total len) v _ S (calls-sound len cs v l b S .0) o i d s e xs w (R .0, R .1 ∙ all-spared len cs v v (volume ∷ xs) r)
+
+-- A data file that no call names keeps its entry, blocks and bytes; there is a way to it, the same before and after, and the names along it are
+-- those before, but for those that calls gave to directories on it or to the volume.
+pub calls-file : (len : ℕ) (cs : List Call) (v : Bytes) → AllLent cs → Octets v → sound (total len) v ≡ true
+    → (s h : ℕ) → Seen v s → sort v s ≡ file h → Unnamed len cs v s
+    → let w = all-after len cs v in
+    Kept v w s × (xs : List ℕ) × Way v volume xs s × Way w volume xs s × (path w xs ≡ allNamesAfter len cs v (volume ∷ xs) (path v xs))
+calls-file len cs v l b S s h q e u =
+    let W = some-way (total len) v S s q (rw e refl) in
+    let R = calls-way len cs v l b S (W .0) s u (W .1) in
+    (calls-kept len cs v l b S s h q e u, W .0, W .1, R .0, R .1)

@@ -46,6 +46,10 @@ some-way n v S s h e =
     let z : d .0 ≡ volume = is-eq (d .0) volume (unfold sum in omega (arith, d .1)) in
     (d .3, rw z at (d .4))
 
+pub way-seen : {n : ℕ} {v : Bytes} → Sound n v → (xs : List ℕ) (d s : ℕ) → Seen v d → Way v d xs s → Seen v s
+way-seen S [] d s h w = rw (← w) h
+way-seen {v = v} S (x ∷ xs) d s h w = way-seen S xs x s (kid-seen S d x h (parent-directory v d x (w .0)) (w .0)) (w .2)
+
 -- One way only: the places from the entry up, each held by the next.
 turned : List ℕ → List ℕ → List ℕ
 turned [] us = us

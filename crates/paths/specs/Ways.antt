@@ -15,13 +15,13 @@ abbrev pub Way : Bytes → ℕ → List ℕ → ℕ → Type 0
 Way v d [] s = d ≡ s
 Way v d (x ∷ xs) s = (1 ≤ count x (kids v d)) × (isActive (sort v x) ≡ true) × Way v x xs s
 
--- the place before the last on a way from d
+-- the place before the last on a way from d, and d itself where there is none
 unfoldable pub holder : ℕ → List ℕ → ℕ
 holder d [] = d
 holder d (x ∷ []) = d
 holder d (x ∷ y ∷ r) = holder x (y ∷ r)
 
--- the names stored at places, the names of a path as capitals, and one such name
+-- Names, each as its bytes: those stored at places, and those of a path as capitals.
 abbrev pub Names : Type 0
 Names = List (List ℕ)
 
@@ -34,11 +34,11 @@ spelled p x = text (capitals p) (x .start) (x .size)
 abbrev pub pathNames : Bytes → ℕ → Names
 pathNames p k = map (spelled p) (parts p k)
 
--- the path of what a way from the volume leads to
+-- the names along a way from the volume, its own first
 abbrev pub path : Bytes → List ℕ → Names
 path v xs = stored v (volume ∷ xs)
 
--- the names ns of the places xs, where the place a gets the name q
+-- the names ns of the places xs, but q for the place a
 unfoldable pub replaced : ℕ → List ℕ → List ℕ → Names → Names
 replaced a q [] ns = ns
 replaced a q (x ∷ xs) [] = []
@@ -51,7 +51,7 @@ pub record Spells (v p : Bytes) (k d s : ℕ) : Type 0 where
   pub names : path v places ≡ pathNames p k
   pub held : holder volume places ≡ d
 
--- every way is as it was, with the names along it
+-- A way to s, and the names along it, are as they were; and so for every way.
 abbrev pub WayStays : Bytes → Bytes → List ℕ → ℕ → Type 0
 WayStays v w xs s = Way w volume xs s × (path w xs ≡ path v xs)
 
