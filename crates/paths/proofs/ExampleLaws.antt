@@ -33,11 +33,11 @@ use Rattle.paths.proofs.CallLaws.{rename-holds, set-info-holds}
 use Rattle.paths.proofs.KeptLaws.{create-path, destroy-path, set-info-path, write-path, set-eof-path, rename-path, rename-new-path, calls-path, allNamesAfter, calls-file}
 
 -- Names as bytes.
-bytes : List ℕ → Bool
+unfoldable pub bytes : List ℕ → Bool
 bytes [] = true
 bytes (x ∷ xs) = ltb x 256 and bytes xs
 
-bytes-view : (l : List ℕ) → bytes l ≡ true → Octets (view l)
+pub bytes-view : (l : List ℕ) → bytes l ≡ true → Octets (view l)
 unfolding bytes
 bytes-view [] e i = omega arith
 bytes-view (x ∷ l) e zero = ltb-true x 256 (and-left _ _ e)

@@ -9,3 +9,4 @@ pub mod NewLaws
 pub mod CallLaws
 pub mod KeptLaws
 pub mod ExampleLaws
+pub mod FullLaws
