@@ -26,7 +26,7 @@ use Rattle.model.proofs.Laws.One.{Kept}
 use Rattle.model.proofs.Laws.Octet.{format-octets}
 use Rattle.model.proofs.Laws.Sequence.{Call, creating, writing, renaming, ending, all-after, AllLent, Unnamed, calls-sound}
 use Rattle.model.proofs.Laws.Example.{plain, nested, fresh-sound}
-use Rattle.paths.specs.Ways.{Way, Names, stored, path as names, holder, pathNames, replaced, Spells, Holds}
+use Rattle.paths.specs.Ways.{Way, Names, stored, path as pathOf, holder, pathNames, replaced, Spells, Holds}
 use Rattle.paths.proofs.PathLaws.{path-spells, spells-path}
 use Rattle.paths.proofs.WayLaws.{one-way, way-seen}
 use Rattle.paths.proofs.CallLaws.{rename-holds, set-info-holds}
@@ -243,7 +243,7 @@ d1-after =
 -- D1 itself: its entry, blocks and bytes are kept, and so is the way.
 pub d1-file : let w = all-after 8192 two case2 in
     Kept case2 w 105 × (xs : List ℕ) × Way case2 volume xs 105 × Way w volume xs 105
-    × (names w xs ≡ allNamesAfter 8192 two case2 (volume ∷ xs) (names case2 xs))
+    × (pathOf w xs ≡ allNamesAfter 8192 two case2 (volume ∷ xs) (pathOf case2 xs))
 unfolding observed
 d1-file =
     calls-file 8192 two case2 two-lent case2-octets case2-sound 105 0

@@ -117,9 +117,20 @@ twelve-path =
     (27 ∷ 92 ∷ []) first-way (makes-unnamed 1 11 begun 92 (λ e. omega arith)) (makes-unrenamed 1 11 begun (volume ∷ 27 ∷ 92 ∷ []))
 
 -- DAYS is full, and the thirteenth is not refused: the path leads to the first again.
+record Last : Type 0 where
+  full : Bool
+  number : ℕ
+
+unfoldable lastOf : Bytes → Last
+lastOf v = record { full = full v 27; number = create 16384 v (view (day 12)) 14 plain .number }
+
+last-computed : lastOf twelve ≡ record { full = true; number = 0 }
+unfolding begun twelve cases lastOf
+last-computed = refl
+
 pub thirteenth : (full twelve 27 ≡ true) × (create 16384 twelve (view (day 12)) 14 plain .number ≡ 0)
-unfolding begun twelve cases
-thirteenth = (refl, refl)
+unfolding lastOf
+thirteenth = (ap (λ x. x .full) last-computed, ap (λ x. x .number) last-computed)
 
 pub thirteen-path : target (create 16384 twelve (view (day 12)) 14 plain .image) (view (day 0)) 14 ≡ there 27 92
 unfolding begun twelve
