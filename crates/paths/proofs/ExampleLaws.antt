@@ -30,7 +30,7 @@ use Rattle.paths.specs.Ways.{Way, Names, stored, path as pathOf, holder,
 use Rattle.paths.proofs.PathLaws.{path-spells, spells-path}
 use Rattle.paths.proofs.WayLaws.{one-way, way-seen}
 use Rattle.paths.proofs.CallLaws.{rename-holds, set-info-holds}
-use Rattle.paths.proofs.KeptLaws.{create-path, destroy-path, set-info-path, write-path, set-eof-path, rename-path, rename-new-path, calls-path, allNamesAfter, calls-file}
+use Rattle.paths.proofs.KeptLaws.{create-path, destroy-path, set-info-path, write-path, set-eof-path, rename-path, rename-new-path, calls-path, namesAfter, names-renamed, allNamesAfter, calls-new-path, calls-file}
 
 -- Names as bytes.
 unfoldable pub bytes : List ℕ → Bool
@@ -57,9 +57,9 @@ abbrev NOTE : List ℕ
 NOTE = path (site7 ∷ note ∷ [])
 
 lent : (bytes site7 ≡ true) × (bytes LOG ≡ true) × (bytes DAYS ≡ true) × (bytes D1 ≡ true) × (bytes (65 ∷ 66 ∷ 67 ∷ []) ≡ true) × (bytes note ≡ true)
-    × (bytes NOTE ≡ true)
+    × (bytes NOTE ≡ true) × (bytes week ≡ true)
 unfolding bytes _and_
-lent = (refl, refl, refl, refl, refl, refl, refl)
+lent = (refl, refl, refl, refl, refl, refl, refl, refl)
 
 -- The volume.
 abbrev four : List Call
@@ -118,6 +118,7 @@ record Observed : Type 0 where
   days-at : ℕ
   week : ℕ
   note-at : ℕ
+  log-later : ℕ
   numbers : List ℕ
 
 unfoldable observed : Bytes → Observed
@@ -134,6 +135,7 @@ observed v =
       days-at = spot (target v (view DAYS) 11);
       week = rename 8192 v (view DAYS) 11 (view week) 4 .number;
       note-at = spot (target (rename 8192 v (view LOG) 10 (view note) 4 .image) (view NOTE) 11);
+      log-later = spot (target (rename 8192 v (view DAYS) 11 (view week) 4 .image) (view LOG) 10);
       numbers = numbersOf v;
     }
 
@@ -150,6 +152,7 @@ computed : observed case2
       days-at = 28;
       week = 0;
       note-at = 27;
+      log-later = 27;
       numbers = 0 ∷ 0 ∷ 0 ∷ 0 ∷ 0 ∷ 0 ∷ [];
     }
 unfolding case2 observed cases text headerNamed renamed isOther nameTaken renameNumber rename infoSet setInfoNumber setInfo
@@ -239,6 +242,22 @@ d1-after =
     (view D1) 14 28 105 d1-path (28 ∷ 105 ∷ []) d1-way
     two-unnamed
     (rw (ap (λ x. x .log-at) computed) refl, (tt, tt))
+
+-- DAYS is renamed to WEEK, and LOG gets the EOF 600: /SITE7/WEEK/D1 leads to D1.
+abbrev later : List Call
+later = renaming (view DAYS) 11 (view week) 4 ∷ ending (view LOG) 10 600 stamp ∷ []
+
+pub d1-later : target (all-after 8192 later case2) (view W1) 14 ≡ there 28 105
+unfolding observed allNamesAfter namesAfter replaced
+d1-later =
+    calls-new-path 8192 later case2 ((bytes-view DAYS (lent .2), bytes-view week (lent .7)), (bytes-view LOG (lent .1), tt)) case2-octets case2-sound
+    (view D1) 14 28 105 d1-path (28 ∷ 105 ∷ []) d1-way
+    (λ e. omega (arith, ap (λ x. x .days-at) computed), (λ e. omega (arith, ap (λ x. x .log-later) computed), tt))
+    (view W1) 14
+    (spelt .1
+    ∙ sym
+    (names-renamed 8192 (view DAYS) 11 (view week) 4 case2 (volume ∷ 28 ∷ 105 ∷ []) (pathNames (view D1) 14) (ap (λ x. x .week) computed)
+    ∙ rw (ap (λ x. x .days-at) computed, spelt .0, spelt .2) refl))
 
 -- D1 itself: its entry, blocks and bytes are kept, and so is the way.
 pub d1-file : let w = all-after 8192 two case2 in

@@ -108,6 +108,11 @@ namesAfter len (reading p k pos b size) v ws ns = ns
 namesAfter len (writing p k pos b size t) v ws ns = ns
 namesAfter len (ending p k e t) v ws ns = ns
 
+pub names-renamed : (len : ℕ) (p : Bytes) (k : ℕ) (q : Bytes) (j : ℕ) (v : Bytes) (ws : List ℕ) (ns : Names) → rename len v p k q j .number ≡ 0
+    → namesAfter len (renaming p k q j) v ws ns ≡ replaced (spot (target v p k)) (text (capitals q) 0 j) ws ns
+unfolding namesAfter
+names-renamed len p k q j v ws ns e = rw (eq-eqb _ 0 e, namesAfter) refl
+
 unfoldable pub allNamesAfter : ℕ → List Call → Bytes → List ℕ → Names → Names
 allNamesAfter len [] v ws ns = ns
 allNamesAfter len (c ∷ cs) v ws ns = allNamesAfter len cs (after len c v) ws (namesAfter len c v ws ns)
