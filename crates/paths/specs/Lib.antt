@@ -1,0 +1,2 @@
+-- Ways and the names along them.
+pub mod Ways
