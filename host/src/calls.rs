@@ -4,8 +4,8 @@
 
 use crate::bytes::{block, block_mut, get16, put16, BLOCK};
 use crate::directory::{
-    chain, count, entry, find, first_inactive, header, look_up, parent, put_name, put_shape, set_count, slot_mut, stamp, Entry, Place, Target,
-    DIRECTORY_TYPE, SLOTS, SLOT_LENGTH, SUBDIRECTORY, VOLUME_KEY,
+    chain, count, entry, find, first_inactive, header, look_up, parent, put_name, put_shape, set_count, slot_mut, stamp, Entry, Place,
+    Target, DIRECTORY_TYPE, SLOTS, SLOT_LENGTH, SUBDIRECTORY, VOLUME_KEY,
 };
 use crate::file::{self, LONGEST_FILE, SEEDLING};
 use crate::map;

@@ -9,7 +9,7 @@ use crate::map;
 use crate::random::Random;
 use crate::replay::{hex, Machine, LARGEST_COUNT};
 use crate::sound::refusal;
-use crate::volumes::{build, changed, weak_address, EDGES};
+use crate::volumes::{build, changed, flaw, weak_address, EDGES};
 
 pub struct Script {
     pub lines: Vec<String>,
@@ -20,17 +20,36 @@ pub struct Script {
 /// A script of about `count` calls.
 pub fn script(seed: u64, count: usize) -> Script {
     let mut maker = Maker::new(seed, count);
-    maker.scenario();
+    maker.scenario(seed);
     Script { lines: maker.lines, answers: maker.answers }
 }
 
 const IMPROPER: [&[u8]; 22] = [
-    b"", b"/", b"//", b"//A", b"A", b"SITE7/A", b"/SITE7/", b"/SITE7//A", b"/SITE7/A/", b"/1A", b"/.A", b"/SITE7/9", b"/SITE7/.A", b"/SITE7/A_B",
-    b"/SITE7/A B", b"/SITE7/A\0", b"/SITE7/\xC1", b"/SITE7/A-", b"/SITE7/A\n", b"/ABCDEFGHIJKLMNOP", b"/SITE7/ABCDEFGHIJKLMNOP", b" /SITE7/A",
+    b"",
+    b"/",
+    b"//",
+    b"//A",
+    b"A",
+    b"SITE7/A",
+    b"/SITE7/",
+    b"/SITE7//A",
+    b"/SITE7/A/",
+    b"/1A",
+    b"/.A",
+    b"/SITE7/9",
+    b"/SITE7/.A",
+    b"/SITE7/A_B",
+    b"/SITE7/A B",
+    b"/SITE7/A\0",
+    b"/SITE7/\xC1",
+    b"/SITE7/A-",
+    b"/SITE7/A\n",
+    b"/ABCDEFGHIJKLMNOP",
+    b"/SITE7/ABCDEFGHIJKLMNOP",
+    b" /SITE7/A",
 ];
 
-const IMPROPER_NAMES: [&[u8]; 12] =
-    [b"", b"/", b"/A", b"A/B", b"1A", b".A", b"A B", b"A_", b"ABCDEFGHIJKLMNOP", b"\x80", b"A\0", b"-"];
+const IMPROPER_NAMES: [&[u8]; 12] = [b"", b"/", b"/A", b"A/B", b"1A", b".A", b"A B", b"A_", b"ABCDEFGHIJKLMNOP", b"\x80", b"A\0", b"-"];
 
 struct Maker {
     random: Random,
@@ -59,12 +78,13 @@ impl Maker {
         }
     }
 
-    fn scenario(&mut self) {
-        match self.random.below(12) {
-            0..=2 => self.formatted(16, 40),
-            3 => self.formatted(40, 300),
-            4 | 5 => self.formatted(270, 700),
-            6 | 7 => self.built(16, 128),
+    /// Twelve seeds in a row have every kind of beginning.
+    fn scenario(&mut self, seed: u64) {
+        match seed % 12 {
+            0 | 1 => self.formatted(16, 40),
+            2 => self.formatted(40, 300),
+            3 | 4 => self.formatted(270, 700),
+            5..=7 => self.built(16, 128),
             8 => self.full_volume_directory(),
             9 => self.full_subdirectory(),
             10 => self.deep(),
@@ -147,7 +167,8 @@ impl Maker {
 
     fn built(&mut self, low: usize, high: usize) {
         let total = self.random.between(low, high);
-        let image = build(&mut self.random, total, 31);
+        let deepest = *self.random.pick(&[2, 5, 31]);
+        let image = build(&mut self.random, total, deepest);
         self.load(&image);
     }
 
@@ -169,6 +190,9 @@ impl Maker {
             let kind = *self.random.pick(&["01 04", "01 04", "0D 0F"]);
             self.call(format!("create /SITE7/E{i} {kind} 0 1 2"));
         }
+        let inside = self.existing(|e| e.kind == SUBDIRECTORY);
+        self.call(format!("create {inside}/X 01 04 0 1 2"));
+        self.call("create /SITE7/E53 0D 0F 0 1 2".to_string());
         let path = self.existing(|_| true);
         self.call(format!("destroy {path}"));
     }
@@ -220,16 +244,16 @@ impl Maker {
 
     // ---- damage
 
-    /// Changes one to three bytes of the structure, makes some calls, and repairs them.
+    /// Damages the structure, makes some calls, and repairs it.
     fn damaged(&mut self) {
         if refusal(&self.machine.image).is_err() {
             return self.fresh(20);
         }
         let before = self.machine.image.clone();
-        for _ in 0..self.random.between(1, 3) {
-            let address = weak_address(&mut self.random, &before);
-            let byte = changed(&mut self.random, before[address]);
-            self.say(format!("set {address} {byte:02X}"));
+        if self.random.once_in(2) {
+            self.flawed(&before);
+        } else {
+            self.changed_bytes(&before);
         }
         for _ in 0..self.random.between(2, 5) {
             self.any_call();
@@ -240,13 +264,37 @@ impl Maker {
         }
     }
 
+    fn changed_bytes(&mut self, before: &[u8]) {
+        for _ in 0..self.random.between(1, 3) {
+            let address = weak_address(&mut self.random, before);
+            let byte = changed(&mut self.random, before[address]);
+            self.say(format!("set {address} {byte:02X}"));
+        }
+    }
+
+    fn flawed(&mut self, before: &[u8]) {
+        let mut image = before.to_vec();
+        flaw(&mut self.random, &mut image);
+        self.put_differences(before, &image);
+    }
+
+    /// `set` lines for the bytes that differ, run by run.
+    fn put_differences(&mut self, old: &[u8], new: &[u8]) {
+        let mut i = 0;
+        while i < new.len() {
+            let length = (i..new.len()).take_while(|&j| old[j] != new[j] && j - i < 1_024).count();
+            if length > 0 {
+                self.say(format!("set {i} {}", hex(&new[i..i + length])));
+            }
+            i += length.max(1);
+        }
+    }
+
     fn repair(&mut self, before: &[u8], now: &[u8]) {
         if before.len() != now.len() {
             return self.load(before);
         }
-        for address in (0..now.len()).filter(|&i| before[i] != now[i]) {
-            self.say(format!("set {address} {:02X}", before[address]));
-        }
+        self.put_differences(now, before);
         self.look();
     }
 
@@ -338,7 +386,9 @@ impl Maker {
     // ---- calls
 
     fn any_call(&mut self) {
+        // An empty volume would refuse nearly everything with $46.
         let line = match self.random.below(100) {
+            _ if self.entries.is_empty() && !self.random.once_in(4) => self.create(),
             0..=17 => self.create(),
             18..=25 => format!("destroy {}", self.path(|_| true)),
             26..=32 => self.rename(),
@@ -349,6 +399,7 @@ impl Maker {
             60..=73 => self.write(),
             74..=84 => self.fill(),
             85..=98 => self.set_eof(),
+            _ if self.random.once_in(2) => "space".to_string(),
             _ => self.format(),
         };
         self.call(line);
@@ -356,7 +407,8 @@ impl Maker {
 
     fn create(&mut self) -> String {
         let path = match self.random.below(10) {
-            0 => self.path(|_| true),
+            0 | 1 => self.path(|_| true),
+            2 if self.random.once_in(3) => format!("/{}X/{}", self.volume.clone(), self.name()),
             _ => {
                 let path = format!("{}/{}", self.directory(), self.name());
                 self.field(path.as_bytes())

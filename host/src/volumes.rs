@@ -2,10 +2,13 @@
 //!
 //! Every byte that soundness does not name is random too, so that a test that looks at one of them is caught.
 
-use crate::bytes::{block_mut, put16, BLOCK};
+use crate::bytes::{block_mut, get16, put16, put24, BLOCK};
 use crate::catalog::walk;
-use crate::directory::{chain, places, put_name, put_shape, set_count, slot_mut, Place, DIRECTORY_TYPE, SLOTS, SLOT_LENGTH, SUBDIRECTORY, VOLUME_KEY};
-use crate::file::{blocks_of, kind_of, set_pointer, POINTERS, SAPLING, SEEDLING, TREE};
+use crate::directory::{
+    active_places, chain, entry, header, places, put_name, put_shape, set_count, slot_mut, Entry, Place, DIRECTORY_TYPE, SLOTS,
+    SLOT_LENGTH, SUBDIRECTORY, VOLUME_KEY,
+};
+use crate::file::{blocks_of, kind_of, pointer, set_pointer, POINTERS, SAPLING, SEEDLING, TREE};
 use crate::map;
 use crate::random::Random;
 
@@ -142,8 +145,9 @@ impl<'a> Builder<'a> {
         put_name(s, &name);
         s[1 + name.len()..16].copy_from_slice(&spare_bytes[name.len()..]);
         put16(s, 0x25, key);
-        let one_more = if self.deepest > 20 { 2 } else { 4 };
-        if level < self.deepest && self.random.once_in(one_more) {
+        // A volume that may be deep mostly is: the way down goes on until the blocks end.
+        let down = if self.deepest > 20 { !self.random.once_in(10) } else { self.random.once_in(4) };
+        if level < self.deepest && down {
             self.subdirectory(place, &name, level + 1);
         } else {
             self.file(place);
@@ -152,7 +156,7 @@ impl<'a> Builder<'a> {
     }
 
     fn subdirectory(&mut self, place: Place, name: &[u8], level: usize) {
-        let wanted = if self.random.once_in(3) { self.random.between(2, 4) } else { 1 };
+        let wanted = if self.random.once_in(3) && self.deepest <= 20 { self.random.between(2, 4) } else { 1 };
         let blocks: Vec<usize> = (0..wanted).filter_map(|_| self.take()).collect();
         let s = slot_mut(&mut self.image, place);
         s[0x10] = DIRECTORY_TYPE;
@@ -205,7 +209,7 @@ impl<'a> Builder<'a> {
                 1 => limit - 1,
                 _ => self.random.below(limit),
             };
-            if crate::file::pointer(&self.image, index, i) == 0 {
+            if pointer(&self.image, index, i) == 0 {
                 let Some(data) = self.take() else { break };
                 set_pointer(&mut self.image, index, i, data);
                 made += 1;
@@ -225,7 +229,7 @@ impl<'a> Builder<'a> {
                 1 => limit - 1,
                 _ => self.random.below(limit),
             };
-            if crate::file::pointer(&self.image, master, i) == 0 {
+            if pointer(&self.image, master, i) == 0 {
                 let Some(index) = self.take() else { break };
                 set_pointer(&mut self.image, master, i, index);
                 made += 1 + self.index(index, below - i * POINTERS);
@@ -251,7 +255,7 @@ pub fn structure(image: &[u8]) -> Vec<usize> {
             SAPLING => all.push(e.key),
             TREE => {
                 all.push(e.key);
-                let indexes = (0..POINTERS).map(|i| crate::file::pointer(image, e.key, i));
+                let indexes = (0..POINTERS).map(|i| pointer(image, e.key, i));
                 all.extend(indexes.filter(|&index| index != 0));
             }
             _ => (),
@@ -260,13 +264,27 @@ pub fn structure(image: &[u8]) -> Vec<usize> {
     all
 }
 
+/// The places of all active entries of a sound volume.
+fn entries(image: &[u8]) -> Vec<Place> {
+    let mut all = active_places(image, VOLUME_KEY);
+    for (_, e) in walk(image) {
+        if e.kind == SUBDIRECTORY {
+            all.extend(active_places(image, e.key));
+        }
+    }
+    all
+}
+
 /// An address of a sound volume where a changed byte is likely to matter.
 pub fn weak_address(random: &mut Random, image: &[u8]) -> usize {
+    let all = entries(image);
+    if !all.is_empty() && random.once_in(2) {
+        return random.pick(&all).address() + random.below(SLOT_LENGTH);
+    }
     let number = *random.pick(&structure(image));
-    let offset = match random.below(5) {
-        0 => random.below(0x2B),
-        1 | 2 => 4 + SLOT_LENGTH * random.below(SLOTS) + random.below(SLOT_LENGTH),
-        3 => *random.pick(&[0, 256]) + random.below(8),
+    let offset = match random.below(4) {
+        0 | 1 => random.below(0x2B),
+        2 => *random.pick(&[0, 256]) + random.below(8),
         _ => random.below(BLOCK),
     };
     number * BLOCK + offset
@@ -288,11 +306,25 @@ pub fn changed(random: &mut Random, old: u8) -> u8 {
 pub fn damage(random: &mut Random, image: &mut Vec<u8>) {
     match random.below(12) {
         0 => change_length(random, image),
-        1 => copy_slot(random, image),
-        2 => swap_slots(random, image),
-        3 => change_number(random, image),
-        4 => change_map(random, image),
+        1..=5 => flaw(random, image),
         _ => change_byte(random, image),
+    }
+}
+
+/// Breaks one sentence of soundness and keeps the others where that is possible, the map and the counts above all.
+pub fn flaw(random: &mut Random, image: &mut [u8]) {
+    match random.below(11) {
+        0 => copy_slot(random, image),
+        1 => swap_slots(random, image),
+        2 => change_number(random, image),
+        3 => change_map(random, image),
+        4 => same_name(random, image),
+        5 => other_eof(random, image),
+        6 => other_type(random, image),
+        7 => other_count(random, image),
+        8 => longer_chain(random, image),
+        9 => second_owner(random, image),
+        _ => pointer_past_eof(random, image),
     }
 }
 
@@ -318,15 +350,14 @@ fn change_length(random: &mut Random, image: &mut Vec<u8>) {
     }
 }
 
+/// A slot of some directory, mostly an active one.
 fn some_slot(random: &mut Random, image: &[u8]) -> usize {
-    let mut blocks: Vec<usize> = (2..6).collect();
-    for (_, e) in walk(image) {
-        if e.kind == SUBDIRECTORY {
-            blocks.extend(chain(image, e.key));
-        }
+    let all = entries(image);
+    if all.is_empty() || random.once_in(4) {
+        Place { block: random.between(2, 5), slot: random.between(1, SLOTS) }.address()
+    } else {
+        random.pick(&all).address()
     }
-    let place = Place { block: *random.pick(&blocks), slot: random.between(1, SLOTS) };
-    place.address()
 }
 
 fn copy_slot(random: &mut Random, image: &mut [u8]) {
@@ -348,19 +379,143 @@ fn change_number(random: &mut Random, image: &mut [u8]) {
     let number = match random.below(4) {
         0 => random.below(total),
         1 => *random.pick(&[0, 1, 2, 6, total - 1, total, 512, 513, 65_535]),
-        2 => (crate::bytes::get16(image, at) + 1) % 65_536,
-        _ => (crate::bytes::get16(image, at) + 65_535) % 65_536,
+        2 => (get16(image, at) + 1) % 65_536,
+        _ => (get16(image, at) + 65_535) % 65_536,
     };
     put16(image, at, number);
 }
 
 fn change_map(random: &mut Random, image: &mut [u8]) {
     let total = image.len() / BLOCK;
+    let last = map::length(total) * 4096 - 1;
     let number = match random.below(3) {
         0 => random.below(total),
-        1 => total + random.below(8),
-        _ => random.below(map::length(total) * 4096),
+        1 => (total + random.below(8)).min(last),
+        _ => random.between(0, last),
     };
-    let number = number.min(map::length(total) * 4096 - 1);
     image[map::MAP_BLOCK * BLOCK + number / 8] ^= 128 >> (number % 8);
+}
+
+/// Some entry that passes the test.
+fn some_entry(random: &mut Random, image: &[u8], test: fn(&Entry) -> bool) -> Option<(Place, Entry)> {
+    let all: Vec<Place> = entries(image).into_iter().filter(|&place| test(&entry(image, place))).collect();
+    if all.is_empty() {
+        return None;
+    }
+    let place = *random.pick(&all);
+    Some((place, entry(image, place)))
+}
+
+/// Two entries of one directory get one name, headers too; now and then in different letters, which no entry may have.
+fn same_name(random: &mut Random, image: &mut [u8]) {
+    let Some((_, one)) = some_entry(random, image, |_| true) else { return };
+    let others: Vec<Place> = active_places(image, one.directory).into_iter().filter(|&p| entry(image, p).name != one.name).collect();
+    if others.is_empty() {
+        return;
+    }
+    let place = *random.pick(&others);
+    let e = entry(image, place);
+    let name = if random.once_in(4) { one.name.to_ascii_lowercase() } else { one.name };
+    put_name(slot_mut(image, place), &name);
+    if e.kind == SUBDIRECTORY {
+        put_name(slot_mut(image, header(e.key)), &name);
+    }
+}
+
+/// A near EOF, so that the kind or the last pointer does not fit, or everything still does.
+fn other_eof(random: &mut Random, image: &mut [u8]) {
+    let Some((place, e)) = some_entry(random, image, |_| true) else { return };
+    let near = [e.eof + 1, e.eof.saturating_sub(1), e.eof + 512, e.eof.saturating_sub(512), 0, e.eof / 512 * 512];
+    let eof = if random.once_in(2) { *random.pick(&EDGES) } else { *random.pick(&near) };
+    put24(slot_mut(image, place), 0x15, eof.min(16_777_215));
+}
+
+fn other_type(random: &mut Random, image: &mut [u8]) {
+    let Some((place, e)) = some_entry(random, image, |_| true) else { return };
+    let s = slot_mut(image, place);
+    match random.below(3) {
+        0 => s[0] = (random.below(16) * 16) as u8 + s[0] % 16,
+        _ => s[0x10] = if e.kind == SUBDIRECTORY { random.byte() } else { DIRECTORY_TYPE },
+    }
+}
+
+/// Blocks used, or a header's count, one more or one less.
+fn other_count(random: &mut Random, image: &mut [u8]) {
+    let Some((place, e)) = some_entry(random, image, |_| true) else { return };
+    let at = if random.once_in(2) { place.address() + 0x13 } else { e.directory * BLOCK + 0x25 };
+    let number = get16(image, at) + 1;
+    put16(image, at, if random.once_in(2) { number } else { number.saturating_sub(2) });
+}
+
+fn some_free(random: &mut Random, image: &[u8]) -> Option<usize> {
+    let all: Vec<usize> = (0..image.len() / BLOCK).filter(|&b| map::is_free(image, b)).collect();
+    if all.is_empty() {
+        None
+    } else {
+        Some(*random.pick(&all))
+    }
+}
+
+fn mark_used(image: &mut [u8], number: usize) {
+    image[map::MAP_BLOCK * BLOCK + number / 8] &= !(128 >> (number % 8));
+}
+
+/// A subdirectory gains an empty block, but not everything that counts it is told.
+fn longer_chain(random: &mut Random, image: &mut [u8]) {
+    let Some((place, e)) = some_entry(random, image, |e| e.kind == SUBDIRECTORY) else { return };
+    let Some(added) = some_free(random, image) else { return };
+    let blocks = chain(image, e.key);
+    let last = blocks[blocks.len() - 1];
+    put16(image, last * BLOCK + 2, if random.once_in(8) { *random.pick(&blocks) } else { added });
+    block_mut(image, added).fill(0);
+    put16(image, added * BLOCK, if random.once_in(6) { 0 } else { last });
+    if !random.once_in(6) {
+        mark_used(image, added);
+    }
+    let s = slot_mut(image, place);
+    if !random.once_in(4) {
+        put16(s, 0x13, e.used + 1);
+    }
+    if !random.once_in(4) {
+        put24(s, 0x15, e.eof + BLOCK);
+    }
+}
+
+/// A pointer of an index becomes another block, the old one free in the map.
+fn second_owner(random: &mut Random, image: &mut [u8]) {
+    let Some((_, e)) = some_entry(random, image, |e| e.kind == SAPLING || e.kind == TREE) else { return };
+    let held: Vec<usize> = (0..POINTERS).filter(|&i| pointer(image, e.key, i) != 0).collect();
+    if held.is_empty() {
+        return;
+    }
+    let i = *random.pick(&held);
+    let old = pointer(image, e.key, i);
+    let total = image.len() / BLOCK;
+    let any = random.below(total);
+    let new = *random.pick(&[0, 1, 2, 6, e.key, total - 1, total, any, any, 256, 65_535]);
+    set_pointer(image, e.key, i, new);
+    map::set_free(image, old);
+}
+
+/// A pointer is put at or after the last one that EOF allows, or just before it; block counted and used in the map.
+fn pointer_past_eof(random: &mut Random, image: &mut [u8]) {
+    let Some((place, e)) = some_entry(random, image, |e| e.kind == SAPLING || e.kind == TREE) else { return };
+    let Some(number) = some_free(random, image) else { return };
+    let below = blocks_of(e.eof);
+    let limit = if e.kind == TREE { below.div_ceil(POINTERS) } else { below };
+    let i = match random.below(4) {
+        0 => limit - 1,
+        1 => limit,
+        2 => 128,
+        _ => random.below(POINTERS),
+    };
+    if i >= POINTERS || pointer(image, e.key, i) != 0 {
+        return;
+    }
+    if e.kind == TREE {
+        block_mut(image, number).fill(0);
+    }
+    set_pointer(image, e.key, i, number);
+    mark_used(image, number);
+    put16(slot_mut(image, place), 0x13, e.used + 1);
 }

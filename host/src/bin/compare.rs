@@ -67,29 +67,54 @@ fn output_of(program: &str, input: &[u8]) -> Vec<u8> {
 
 fn compare_script(program: &str, seed: u64, count: usize, tally: &mut Tally) {
     let made = script(seed, count);
-    let text = made.lines.join("\n") + "\n";
-    let output = output_of(program, text.as_bytes());
-    let printed: Vec<&[u8]> = host::replay::lines(&output);
-    let different = (0..made.answers.len()).find(|&i| printed.get(i) != Some(&made.answers[i].as_bytes()));
-    if let Some(i) = different {
-        tally.add(&made, i);
+    let all = made.lines.len();
+    if !agrees(program, &made, all) {
+        let length = shortest(program, &made, all);
+        tally.add(&made, length - 1);
         tally.print();
-        report_line(seed, &made, i, printed.get(i));
+        report_script(program, seed, &made, length);
     }
-    if printed.len() > made.answers.len() {
-        report_line(seed, &made, made.answers.len() - 1, printed.get(made.answers.len()));
-    }
-    tally.add(&made, made.answers.len());
+    tally.add(&made, all);
     tally.scripts += 1;
 }
 
-/// Writes the script up to the line that differs, and ends.
-fn report_line(seed: u64, made: &Script, i: usize, printed: Option<&&[u8]>) -> ! {
+fn first_lines(lines: &[String], length: usize) -> String {
+    lines[..length].iter().map(|line| format!("{line}\n")).collect()
+}
+
+/// Does the program print what is expected for the first lines of a script?
+fn agrees(program: &str, made: &Script, length: usize) -> bool {
+    let output = output_of(program, first_lines(&made.lines, length).as_bytes());
+    output == first_lines(&made.answers, length).as_bytes()
+}
+
+/// The least number of lines that show a difference. Halving, as a program that breaks down may print nothing at all.
+fn shortest(program: &str, made: &Script, all: usize) -> usize {
+    let (mut good, mut bad) = (0, all);
+    while bad - good > 1 {
+        let middle = (good + bad) / 2;
+        if agrees(program, made, middle) {
+            good = middle;
+        } else {
+            bad = middle;
+        }
+    }
+    bad
+}
+
+/// Writes the script that shows the difference in its last line, and ends.
+fn report_script(program: &str, seed: u64, made: &Script, length: usize) -> ! {
     let path = file(&format!("difference-{seed}.txt"));
-    std::fs::write(&path, made.lines[..=i].join("\n") + "\n").expect("a file for the difference");
-    println!("seed {seed}, line {}: {}", i + 1, short(&made.lines[i]));
-    println!("  expected: {}", short(&made.answers[i]));
-    println!("  printed:  {}", printed.map_or("nothing".to_string(), |bytes| short(&String::from_utf8_lossy(bytes))));
+    let text = first_lines(&made.lines, length);
+    std::fs::write(&path, &text).expect("a file for the difference");
+    let output = output_of(program, text.as_bytes());
+    let printed = host::replay::lines(&output).get(length - 1).map(|bytes| String::from_utf8_lossy(bytes).to_string());
+    println!("seed {seed}, line {length}: {}", short(&made.lines[length - 1]));
+    println!("  expected: {}", short(&made.answers[length - 1]));
+    println!(
+        "  printed:  {}",
+        short(&printed.unwrap_or_else(|| format!("(the program ended; all it printed has {} bytes)", output.len())))
+    );
     println!("the script is in {}", path.display());
     exit(1)
 }
@@ -141,7 +166,7 @@ fn next_image(random: &mut Random, sound: &[u8], i: usize) -> Vec<u8> {
 fn compare_image(program: &str, seed: u64, image: &[u8], tally: &mut Tally) {
     let expected = catalog::print(image);
     let printed = output_of(program, image);
-    *tally.images.entry(image_case(&expected)).or_default() += 1;
+    *tally.images.entry(image_case(&expected, image)).or_default() += 1;
     if printed != expected.as_bytes() {
         tally.print();
         let path = file(&format!("difference-{seed}.po"));
@@ -165,12 +190,12 @@ fn reason(image: &[u8]) -> Result<(), &'static str> {
     }
 }
 
-fn image_case(printed: &str) -> String {
-    let line = printed.lines().next().unwrap_or("");
-    if line.starts_with("REFUSED") || line == "TOO LARGE" {
-        line.to_string()
-    } else {
-        "listed".to_string()
+/// What is counted: listed, or the refusal, with the first sentence that is broken.
+fn image_case(printed: &str, image: &[u8]) -> String {
+    match (printed.lines().next().unwrap_or(""), reason(image)) {
+        ("REFUSED 5A", Err(sentence)) => format!("REFUSED 5A: {sentence}"),
+        (line, _) if line.starts_with("REFUSED") || line == "TOO LARGE" => line.to_string(),
+        _ => "listed".to_string(),
     }
 }
 
@@ -209,8 +234,10 @@ impl Tally {
         }
         let images: usize = self.images.values().sum();
         if images > 0 {
-            let parts: Vec<String> = self.images.iter().map(|(case, n)| format!("{case} {n}")).collect();
-            println!("{images} images compared: {}", parts.join(", "));
+            println!("{images} images compared");
+        }
+        for (case, n) in &self.images {
+            println!("  {n:6} {case}");
         }
     }
 }
