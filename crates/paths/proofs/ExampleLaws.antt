@@ -19,13 +19,13 @@ use Rattle.model.specs.SetEof.{setEof}
 use Rattle.model.specs.Rename.{headerNamed, renamed, isOther, nameTaken, renameNumber, rename}
 use Rattle.model.specs.Info.{infoSet, setInfoNumber, setInfo}
 use Rattle.model.specs.Catalog.{text}
-use Rattle.model.proofs.Cases.{cases, fresh, stamp, site7, days, d1, path, LOG, DAYS, D1, abc}
+use Rattle.cases.proofs.Cases.{cases, fresh, stamp, site7, days, d1, path, LOG, DAYS, D1, abc}
 use Rattle.model.proofs.Laws.Sound.{and-left, and-right, sound-facts}
 use Rattle.model.proofs.Laws.Facts.{volume-seen}
 use Rattle.model.proofs.Laws.One.{Kept}
 use Rattle.model.proofs.Laws.Octet.{format-octets}
 use Rattle.model.proofs.Laws.Sequence.{Call, creating, writing, renaming, ending, all-after, AllLent, Unnamed, calls-sound}
-use Rattle.model.proofs.Laws.Example.{plain, nested, fresh-sound}
+use Rattle.cases.proofs.Example.{plain, nested, fresh-sound}
 use Rattle.paths.specs.Ways.{Way, Names, stored, path as pathOf, holder, pathNames, replaced, Spells, Holds}
 use Rattle.paths.proofs.PathLaws.{path-spells, spells-path}
 use Rattle.paths.proofs.WayLaws.{one-way, way-seen}

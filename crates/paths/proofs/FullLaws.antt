@@ -11,12 +11,12 @@ use Rattle.model.specs.Calls.{target}
 use Rattle.model.specs.Format.{formatNumber}
 use Rattle.model.specs.Create.{full, create}
 use Rattle.model.specs.Catalog.{text}
-use Rattle.model.proofs.Cases.{cases, fresh, stamp, site7, days, DAYS, day}
+use Rattle.cases.proofs.Cases.{cases, fresh, stamp, site7, days, DAYS, day}
 use Rattle.model.proofs.Laws.Sound.{and-left, and-right}
 use Rattle.model.proofs.Laws.Format.{format-sound}
 use Rattle.model.proofs.Laws.Octet.{format-octets}
 use Rattle.model.proofs.Laws.Sequence.{Call, creating, all-after, AllLent, Unnamed, calls-sound}
-use Rattle.model.proofs.Laws.Example.{plain, nested}
+use Rattle.cases.proofs.Example.{plain, nested}
 use Rattle.paths.specs.Ways.{Way, Names, stored, holder, pathNames}
 use Rattle.paths.proofs.PathLaws.{spells-path}
 use Rattle.paths.proofs.KeptLaws.{create-path, Unrenamed, calls-path}
