@@ -1,0 +1,2 @@
+-- What a path leads to after a call, what stands there, and how many blocks are free.
+pub mod Ways
