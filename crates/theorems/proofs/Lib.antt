@@ -1,2 +1,3 @@
 -- What a path leads to after a call, what stands there, and how many blocks are free.
 pub mod Ways
+pub mod Formatted
