@@ -1,3 +1,5 @@
 -- What a path leads to after a call, what stands there, and how many blocks are free.
 pub mod Ways
 pub mod Formatted
+pub mod Counting
+pub mod Destroyed

@@ -30,6 +30,9 @@ pub record Spelled (p : Bytes) (x : Part) (q : Bytes) (y : Part) : Type 0 where
 pub spelled-self : (p : Bytes) (x : Part) → Spelled p x p x
 spelled-self p x = record { sized = refl; same = λ i l. refl }
 
+pub spelled-sym : {p q : Bytes} {x y : Part} → Spelled p x q y → Spelled q y p x
+spelled-sym E = let s = E .sized in record { sized = sym s; same = λ i l. sym (E .same i (omega arith)) }
+
 pub spelled-bears : {v : Bytes} {a : ℕ} {p q : Bytes} {x y : Part} → Spelled p x q y → Bears v a p x → Bears v a q y
 spelled-bears E B =
     let s = E .sized in
@@ -196,6 +199,9 @@ pub reaches-lookup : {n : ℕ} {v p : Bytes} {ps : List Part} {d : ℕ} {y : Par
 unfolding lookup
 reaches-lookup S (reached m L) = rw (m, lookup) (leads-along S (volume-seen S) (volume-directory S) L)
 
+pub reaches-self : {v p : Bytes} {ps : List Part} {d : ℕ} {y : Part} → Reaches v p ps d y → SameNames p p ps ps
+reaches-self {p = p} (reached {x} {x′} {xs = xs} m L) = names-self p x (x′ ∷ xs)
+
 -- What a call keeps for the ways: the directories but those that are not `good` stay in their directories, under their names.
 pub record Carries (v w : Bytes) (good : ℕ → Type 0) : Type 0 where
   pub stays : (e t : ℕ) → Seen v e → sort v e ≡ directory → good e → 1 ≤ count t (kids v e) → sort v t ≡ directory → good t
@@ -209,6 +215,10 @@ GoodAbove v good m = (t j : ℕ) → At v t j → j < m → sort v t ≡ directo
 pub near-same : {v w p q : Bytes} {a : ℕ} {x y : Part} → Near v w a → Spelled p x q y → sameName v a p x ≡ true → sameName w a q y ≡ true
 near-same {v} {w} {p} {q} {a} {x} {y} N E m = bears-same w a q y (spelled-bears E (same-bears w a p x (same-near p x N ∙ m)))
 
+pub near-back : {v w p q : Bytes} {a : ℕ} {x y : Part} → Near v w a → Spelled p x q y → sameName w a q y ≡ true → sameName v a p x ≡ true
+near-back {v} {w} {p} {q} {a} {x} {y} N E m =
+    bears-same v a p x (spelled-bears (spelled-sym E) (same-bears v a q y (sym (same-near q y N) ∙ m)))
+
 module _ {n : ℕ} {v w : Bytes} {good : ℕ → Type 0} (S : Sound n v) (C : Carries v w good) {p q : Bytes} {L : Part → Part → Type 0} where
   carried : {e d k : ℕ} {y : Part} {ps qs : List Part} → At v e k → sort v e ≡ directory → GoodAbove v good (k + length ps) → Leads v p e ps d y
       → Names p q L ps qs → (z : Part) × Leads w q e qs d z × L y z
@@ -220,10 +230,10 @@ module _ {n : ℕ} {v w : Bytes} {good : ℕ → Type 0} (S : Sound n v) (C : Ca
       let R = carried {k = suc k} b f (rw i g) W N in
       (R .0, onward (K .0) (K .1) (near-same (K .2) E m) (R .1), R .2)
 
-  pub reaches-carried : {d : ℕ} {y : Part} {ps qs : List Part} → GoodAbove v good (length ps - 1) → Reaches v p ps d y → Names p q L ps qs
+  pub reaches-carried : {d : ℕ} {y : Part} {ps qs : List Part} → GoodAbove v good (suc (length ps - 2)) → Reaches v p ps d y → Names p q L ps qs
       → (z : Part) × Reaches w q qs d z × L y z
   reaches-carried g (reached {x} {x′} {xs = xs} m W) (before E N) =
-      let i : 0 + length (x′ ∷ xs) ≡ length (x ∷ x′ ∷ xs) - 1 = omega arith in
+      let i : 0 + length (x′ ∷ xs) ≡ suc (length (x ∷ x′ ∷ xs) - 2) = omega arith in
       first (carried {k = 0} (start refl) (volume-directory S) (rw i g) W N) (near-same (C .top) E m)
     where
       first : {u u′ y : Part} {us : List Part} {d : ℕ} → ((z : Part) × Leads w q volume (u′ ∷ us) d z × L y z) → sameName w (at volume) q u ≡ true
