@@ -3,3 +3,4 @@ pub mod Ways
 pub mod Formatted
 pub mod Counting
 pub mod Destroyed
+pub mod Resized
