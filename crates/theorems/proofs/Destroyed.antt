@@ -26,7 +26,7 @@ use Rattle.model.proofs.Laws.One.{Place, in-slot, in-count, Apart, Step, slot-m
 use Rattle.model.proofs.Laws.Lookup.{rows-off, not-false, Entry, entry-led, target-led, seek-some}
 use Rattle.model.proofs.Laws.Destroy.{all-out, all-free, Destroys, gone-sound, done}
 use Rattle.model.proofs.Laws.Settled.{done-image}
-use Rattle.theorems.proofs.Ways.{Spelled, SameNames, under, Reaches, path-reaches, reaches-at, reaches-lookup, reaches-carried, reaches-self, step-carries, above-good, near-back, only-one, seek-no}
+use Rattle.theorems.proofs.Ways.{SameNames, names-self, under, Reaches, path-reaches, reaches-at, reaches-names, reaches-carried, step-carries, step-top, above-good, last-gone}
 use Rattle.theorems.proofs.Counting.{room-list}
 
 module _ {n : ℕ} {v : Bytes} {a d : ℕ} (D : Destroys n v a d) where
@@ -81,19 +81,10 @@ module _ {n : ℕ} {v : Bytes} {a d : ℕ} (D : Destroys n v a d) where
   -- the name, and every other spelling of the path
   gone-missing : {p q : Bytes} {y : Part} (ps qs : List Part) → isActive (sort v a) ≡ true → sameName v (at a) p y ≡ true → Reaches v p ps d y → SameNames p q ps qs
       → lookup gone q qs ≡ missing d
-  gone-missing {p} {q} {y} ps qs alive m R N =
+  gone-missing ps qs alive m R N =
       let A = reaches-at S R in
-      let C = reaches-carried S (step-carries gone-step) (above-good S (under (A .0) (A .1) (P .inside))) R N in
-      reaches-lookup (gone-sound D) (C .1)
-      ∙ rw (seek-no gone q (C .0) (kids gone d) (none-left (C .0) (C .2))) (unfold last in refl)
-    where
-      none-left : (z : Part) → Spelled p y q z → (u : ℕ) → 1 ≤ count u (kids gone d) → isActive (sort gone u) ≡ true → sameName gone (at u) q z ≡ true → ⊥
-      none-left z E u c f g =
-          at-or-off u a (λ e. false≢true (rw (e, gone-sort) at f))
-          (λ k.
-          let c′ : 1 ≤ count u (kids v d) = rw (kids-same v gone d (one-keeps gone-step d (P .home) (one-apart gone-step))) at c in
-          let O = one-entry gone-step d u (P .home) c′ k in
-          k (only-one S p y d (P .home) (P .holds) a u (P .inside) alive m c′ (rw (← O .0) f) (near-back (named-near (O .1)) E g)))
+      let C = reaches-carried S (step-carries gone-step) (step-top gone-step) (above-good S (under (A .0) (A .1) (P .inside))) R (reaches-names R N) in
+      last-gone gone-step (gone-sound D) (C .1) alive m (C .2) (λ f _. false≢true (rw gone-sort at f))
 
 -- What an accepted destroy of the path p of k bytes does to the volume v of n blocks.
 pub record Destroyed (n : ℕ) (v p : Bytes) (k : ℕ) (w : Bytes) : Type 0 where
@@ -119,7 +110,7 @@ module _ (len : ℕ) (v p : Bytes) (k : ℕ) (octets : Octets v) where
       let m = seek-some v p (lastPart (parts p k)) (kids v (home (target v p k))) (spot (target v p k)) (E .found) .2 in
       record {
         sound = gone-sound D;
-        gone = gone-missing D (parts p k) (parts p k) (E .alive) m R (reaches-self R);
+        gone = gone-missing D (parts p k) (parts p k) (E .alive) m R (names-self p (parts p k));
         nowhere = λ q i N. gone-missing D (parts p k) (parts q i) (E .alive) m R N;
         idle = gone-sort D;
         freed = gone-room D;

@@ -18,7 +18,7 @@ use Rattle.model.proofs.Laws.Sound.{and-both, Sound}
 use Rattle.model.proofs.Laws.Facts.{Seen, kid-seen, kid-proper, one-parent, volume-seen, volume-directory, seen-directory}
 use Rattle.model.proofs.Laws.Keep.{head-name, kids-same}
 use Rattle.model.proofs.Laws.Near.{Near, named-near, same-near}
-use Rattle.model.proofs.Laws.One.{Step, inactive-directory, one-keeps, one-entry, one-volume}
+use Rattle.model.proofs.Laws.One.{Step, inactive-directory, one-keeps, one-entry, one-volume, one-apart}
 use Rattle.model.proofs.Laws.Lookup.{seek-some, seek-none}
 use Rattle.model.proofs.Laws.Spelling.{Bears, same-bears, bears-same, bears-alike, twins-two}
 
@@ -49,13 +49,18 @@ pub data Names (p q : Bytes) (L : Part → Part → Type 0) : List Part → List
   at-last : {x y : Part} → L x y → Names p q L (x ∷ []) (y ∷ [])
   before : {x y x′ y′ : Part} {xs ys : List Part} → Spelled p x q y → Names p q L (x′ ∷ xs) (y′ ∷ ys) → Names p q L (x ∷ x′ ∷ xs) (y ∷ y′ ∷ ys)
 
--- all of them are the same
-abbrev pub SameNames : Bytes → Bytes → List Part → List Part → Type 0
-SameNames p q = Names p q (λ x y. Spelled p x q y)
+-- All of them are the same.
+pub data SameNames (p q : Bytes) : List Part → List Part → Type 0 where
+  none-left : SameNames p q [] []
+  one-more : {x y : Part} {xs ys : List Part} → Spelled p x q y → SameNames p q xs ys → SameNames p q (x ∷ xs) (y ∷ ys)
 
-pub names-self : (p : Bytes) (x : Part) (xs : List Part) → SameNames p p (x ∷ xs) (x ∷ xs)
-names-self p x [] = at-last (spelled-self p x)
-names-self p x (y ∷ ys) = before (spelled-self p x) (names-self p y ys)
+pub names-self : (p : Bytes) (xs : List Part) → SameNames p p xs xs
+names-self p [] = none-left
+names-self p (x ∷ xs) = one-more (spelled-self p x) (names-self p xs)
+
+pub same-names : {p q : Bytes} {x : Part} {xs ys : List Part} → SameNames p q (x ∷ xs) ys → Names p q (λ x y. Spelled p x q y) (x ∷ xs) ys
+same-names {xs = []} (one-more E none-left) = at-last E
+same-names {xs = u ∷ us} (one-more E (one-more F N)) = before E (same-names (one-more F N))
 
 -- A slot k steps below the volume.
 pub data At (v : Bytes) : ℕ → ℕ → Type 0 where
@@ -199,14 +204,14 @@ pub reaches-lookup : {n : ℕ} {v p : Bytes} {ps : List Part} {d : ℕ} {y : Par
 unfolding lookup
 reaches-lookup S (reached m L) = rw (m, lookup) (leads-along S (volume-seen S) (volume-directory S) L)
 
-pub reaches-self : {v p : Bytes} {ps : List Part} {d : ℕ} {y : Part} → Reaches v p ps d y → SameNames p p ps ps
-reaches-self {p = p} (reached {x} {x′} {xs = xs} m L) = names-self p x (x′ ∷ xs)
+pub reaches-names : {v p q : Bytes} {ps qs : List Part} {d : ℕ} {y : Part} → Reaches v p ps d y → SameNames p q ps qs
+    → Names p q (λ x y. Spelled p x q y) ps qs
+reaches-names (reached m L) N = same-names N
 
 -- What a call keeps for the ways: the directories but those that are not `good` stay in their directories, under their names.
 pub record Carries (v w : Bytes) (good : ℕ → Type 0) : Type 0 where
   pub stays : (e t : ℕ) → Seen v e → sort v e ≡ directory → good e → 1 ≤ count t (kids v e) → sort v t ≡ directory → good t
       → (1 ≤ count t (kids w e)) × (sort w t ≡ directory) × Near v w (at t)
-  pub top : Near v w (at volume)
 
 -- the directories less than m steps below the volume are good
 abbrev pub GoodAbove : Bytes → (ℕ → Type 0) → ℕ → Type 0
@@ -230,17 +235,17 @@ module _ {n : ℕ} {v w : Bytes} {good : ℕ → Type 0} (S : Sound n v) (C : Ca
       let R = carried {k = suc k} b f (rw i g) W N in
       (R .0, onward (K .0) (K .1) (near-same (K .2) E m) (R .1), R .2)
 
-  pub reaches-carried : {d : ℕ} {y : Part} {ps qs : List Part} → GoodAbove v good (suc (length ps - 2)) → Reaches v p ps d y → Names p q L ps qs
+  pub reaches-carried : {d : ℕ} {y : Part} {ps qs : List Part} → Near v w (at volume) → GoodAbove v good (suc (length ps - 2)) → Reaches v p ps d y → Names p q L ps qs
       → (z : Part) × Reaches w q qs d z × L y z
-  reaches-carried g (reached {x} {x′} {xs = xs} m W) (before E N) =
+  reaches-carried top g (reached {x} {x′} {xs = xs} m W) (before E N) =
       let i : 0 + length (x′ ∷ xs) ≡ suc (length (x ∷ x′ ∷ xs) - 2) = omega arith in
-      first (carried {k = 0} (start refl) (volume-directory S) (rw i g) W N) (near-same (C .top) E m)
+      first (carried {k = 0} (start refl) (volume-directory S) (rw i g) W N) (near-same top E m)
     where
       first : {u u′ y : Part} {us : List Part} {d : ℕ} → ((z : Part) × Leads w q volume (u′ ∷ us) d z × L y z) → sameName w (at volume) q u ≡ true
           → (z : Part) × Reaches w q (u ∷ u′ ∷ us) d z × L y z
       first (z, W, l) m = (z, reached m W, l)
 
--- A change of one entry keeps all other directories.
+-- A change of one entry keeps all other directories, and the volume's name.
 pub step-carries : {n : ℕ} {v w : Bytes} {a d : ℕ} → Step n v w a d → Carries v w (λ t. t ≡ a → ⊥)
 step-carries {v = v} {w} T =
     record {
@@ -248,8 +253,10 @@ step-carries {v = v} {w} T =
           let K = kids-same v w e (one-keeps T e s g) in
           let E = one-entry T e t s c z in
           (rw K c, E .0 ∙ f, named-near (E .1));
-      top = named-near (unfold at in head-name v w volumeBlock (one-volume T));
     }
+
+pub step-top : {n : ℕ} {v w : Bytes} {a d : ℕ} → Step n v w a d → Near v w (at volume)
+step-top {v = v} {w} T = named-near (unfold at in head-name v w volumeBlock (one-volume T))
 
 -- what is found by the last name is below all directories of the way; what is inactive is none
 pub above-good : {n : ℕ} {v : Bytes} {a m : ℕ} → Sound n v → At v a m → GoodAbove v (λ t. t ≡ a → ⊥) m
@@ -257,3 +264,29 @@ above-good S A t j B l h e = let f = at-depth S A (rw e at B) in omega arith
 
 pub idle-good : {v : Bytes} {a : ℕ} (m : ℕ) → sort v a ≡ inactive → GoodAbove v (λ t. t ≡ a → ⊥) m
 idle-good m i t j B l h e = inactive-directory (sym i ∙ rw (← e) h)
+
+-- The last name after a change of the entry a in d: it is a's, or it is nobody's.
+module _ {n : ℕ} {v w : Bytes} {a d : ℕ} (T : Step n v w a d) (S′ : Sound n w) {q : Bytes} {qs : List Part} {z : Part} (R : Reaches w q qs d z) where
+  open Step T using (sound as S, spot as P)
+
+  step-kids : kids w d ≡ kids v d
+  step-kids = kids-same v w d (one-keeps T d (P .home) (one-apart T))
+
+  pub last-found : isActive (sort w a) ≡ true → sameName w (at a) q z ≡ true → lookup w q qs ≡ there d a
+  last-found f m =
+      let A = reaches-at S′ R in
+      reaches-lookup S′ R
+      ∙ rw (seek-one S′ q z d (at-seen S′ (A .0)) (A .1) a (rw step-kids (P .inside)) f m) (unfold last in refl)
+
+  pub last-gone : {p : Bytes} {y : Part} → isActive (sort v a) ≡ true → sameName v (at a) p y ≡ true → Spelled p y q z
+      → (isActive (sort w a) ≡ true → sameName w (at a) q z ≡ true → ⊥) → lookup w q qs ≡ missing d
+  last-gone {p} {y} f m E off =
+      reaches-lookup S′ R ∙ rw (seek-no w q z (kids w d) none-there) (unfold last in refl)
+    where
+      none-there : (u : ℕ) → 1 ≤ count u (kids w d) → isActive (sort w u) ≡ true → sameName w (at u) q z ≡ true → ⊥
+      none-there u c g h =
+          at-or-off u a (λ e. off (rw (← e) g) (rw (← e) h))
+          (λ k.
+          let c′ : 1 ≤ count u (kids v d) = rw step-kids at c in
+          let O = one-entry T d u (P .home) c′ k in
+          k (only-one S p y d (P .home) (P .holds) a u (P .inside) f m c′ (rw (← O .0) g) (near-back (named-near (O .1)) E h)))
