@@ -4,3 +4,4 @@ pub mod Formatted
 pub mod Counting
 pub mod Destroyed
 pub mod Resized
+pub mod Renamed

@@ -11,7 +11,7 @@ use Rattle.model.specs.Bytes.{Bytes, sum, count, is, _and_}
 use Rattle.model.specs.Names.{Part, capital, capitals, sameName}
 use Rattle.model.specs.Directory.{Sort, inactive, directory, improper, file, sort, isActive, isDirectory, at, volume, volumeBlock, kids, seek, Target, noVolume, noDirectory, missing, there, last, along, lookup}
 use Rattle.model.specs.Calls.{isNoVolume, isNoDirectory, home, spot, lastPart}
-use Rattle.model.proofs.ByteLaws.{at-or-off}
+use Rattle.model.proofs.ByteLaws.{at-or-off, equal-cong}
 use Rattle.model.proofs.SumLaws.{is-self}
 use Rattle.model.proofs.BitLaws.{is-no}
 use Rattle.model.proofs.Laws.Sound.{and-both, Sound}
@@ -32,6 +32,16 @@ spelled-self p x = record { sized = refl; same = λ i l. refl }
 
 pub spelled-sym : {p q : Bytes} {x y : Part} → Spelled p x q y → Spelled q y p x
 spelled-sym E = let s = E .sized in record { sized = sym s; same = λ i l. sym (E .same i (omega arith)) }
+
+pub spelled-trans : {p q o : Bytes} {x y z : Part} → Spelled p x q y → Spelled q y o z → Spelled p x o z
+spelled-trans E F = let s = E .sized in record { sized = s ∙ F .sized; same = λ i l. E .same i l ∙ F .same i (omega arith) }
+
+-- and so a stored name is both or neither
+pub same-spelled : {p q : Bytes} {x y : Part} (v : Bytes) (a : ℕ) → Spelled p x q y → sameName v a q y ≡ sameName v a p x
+unfolding sameName
+same-spelled {p} {q} {x} {y} v a E =
+    let s = E .sized in
+    rw (s, equal-cong v (a + 1) (capitals p) (x .start) (y .size) v (a + 1) (capitals q) (y .start) (λ i l. refl) (λ i l. E .same i (omega arith))) refl
 
 pub spelled-bears : {v : Bytes} {a : ℕ} {p q : Bytes} {x y : Part} → Spelled p x q y → Bears v a p x → Bears v a q y
 spelled-bears E B =
