@@ -84,3 +84,165 @@ module _ {n : ℕ} {v : Bytes} {a d : ℕ} (q : Bytes) (j : ℕ) (S : Sound n v)
         let C = carry (reaches-names R N) in
         last-gone now-step now-sound (C .1) alive m (C .2)
         (λ _ h. off (spelled-trans (C .2) (bears-spelled (same-bears now (at a) o (C .0) h) now-bears)))
+
+-- What an accepted rename of the path p of k bytes to the name q of j bytes does, where it leads to the entry a of the directory d.
+pub record Renamed (n : ℕ) (v p : Bytes) (k : ℕ) (q : Bytes) (j : ℕ) (w : Bytes) (d a : ℕ) : Type 0 where
+  pub sound : Sound n w
+  pub kept : sort w a ≡ sort v a
+  -- every path with the names of p but the last, which is q
+  pub found : (o : Bytes) (i : ℕ) → Names p o (λ _ z. Spelled o z q (part 0 j)) (parts p k) (parts o i) → target w o i ≡ there d a
+  -- every path with the names of p, unless the last is q already
+  pub gone : (Spelled p (lastPart (parts p k)) q (part 0 j) → ⊥)
+      → (o : Bytes) (i : ℕ) → SameNames p o (parts p k) (parts o i) → target w o i ≡ missing d
+
+-- The first name of a path is the name z of q, the others are those of another path.
+pub data FirstNamed (p o q : Bytes) (z : Part) : List Part → List Part → Type 0 where
+  first-named : {x y : Part} {xs ys : List Part} → Spelled o y q z → SameNames p o xs ys → FirstNamed p o q z (x ∷ xs) (y ∷ ys)
+
+-- The same where it leads to the volume: what every other path leads to.
+pub record VolumeRenamed (n : ℕ) (v q : Bytes) (j : ℕ) (w : Bytes) : Type 0 where
+  pub sound : Sound n w
+  -- where a path led, the path with the new first name leads
+  pub found : (p : Bytes) (k : ℕ) → isNoVolume (target v p k) ≡ false → (o : Bytes) (i : ℕ) → FirstNamed p o q (part 0 j) (parts p k) (parts o i)
+      → target w o i ≡ target v p k
+  -- a path with another first name leads nowhere
+  pub gone : (o : Bytes) (i : ℕ) (x : Part) (xs : List Part) → parts o i ≡ x ∷ xs → (Spelled o x q (part 0 j) → ⊥) → target w o i ≡ noVolume
+
+-- The volume.
+module _ {n : ℕ} {v : Bytes} (q : Bytes) (j : ℕ) (S : Sound n v) (proper : properName q 0 j ≡ true) where
+  abbrev after : Bytes
+  after = named v (at volume) q j
+
+  after-bears : Bears after (at volume) q (part 0 j)
+  after-bears = stored after (at volume) q (part 0 j) (v (at volume) / 16) (name-size q 0 j proper) (λ i l. paste-at v (at volume) 16 _ i l) .0
+
+  after-slot : (x o : ℕ) → (x ≡ volume → ⊥) → o < 39 → after (at x + o) ≡ v (at x + o)
+  after-slot x o z l =
+      paste-out v (at volume) 16 _ (at x + o) (λ g h. z (at-inj x volume o (at x + o - at volume) l (omega arith) (omega arith)))
+
+  after-entry : (x : ℕ) → (x ≡ volume → ⊥) → (sort after x ≡ sort v x) × Near v after (at x)
+  after-entry x z =
+      let N : Named v after (at x) = λ i l. after-slot x i z (omega arith) in
+      (sort-named v after x N, named-near N)
+
+  after-sort : (x : ℕ) → sort after x ≡ sort v x
+  after-sort x = at-or-off x volume (λ e. rw e (unfold sort in refl)) (λ z. after-entry x z .0)
+
+  after-chain : (k u : ℕ) → chain after k u ≡ chain v k u
+  unfolding at
+  after-chain k u =
+      chain-same v after k u (λ b _. next-in v after b (λ i l. paste-out v (at volume) 16 _ (b * 512 + i) (λ g h. omega arith)))
+
+  after-kids : (d : ℕ) → sort v d ≡ directory → kids after d ≡ kids v d
+  after-kids d e =
+      let F : Fields v after d = λ z o g l _. after-slot d o z l in
+      directory-kids after d (after-sort d ∙ e)
+      ∙ rw (key-same v after d F, used-same v after d F, after-chain (key v d) (used v d)) (sym (directory-kids v d e))
+
+  -- other names lead on as before
+  module _ (o o′ : Bytes) where
+    seek-same : {x y : Part} → Spelled o x o′ y → (ss : List ℕ) → ((s : ℕ) → 1 ≤ count s ss → s ≡ volume → ⊥) → seek after o′ y ss ≡ seek v o x ss
+    unfolding seek sum
+    seek-same E [] f = refl
+    seek-same {x} {y} E (s ∷ ss) f =
+        let A = after-entry s (f s (omega (arith, is-self s))) in
+        let alive : isActive (sort after s) ≡ isActive (sort v s) = ap isActive (A .0) in
+        let name : sameName after (at s) o′ y ≡ sameName v (at s) o x = same-near o′ y (A .1) ∙ same-spelled v (at s) E in
+        let r = seek-same E ss (λ t c. f t (omega arith)) in
+        λ i. elim (alive i and name i) [ true ↦ some s | false ↦ r i ]
+
+    found-same : {x y : Part} → Spelled o x o′ y → (d : ℕ) → Seen v d → sort v d ≡ directory → seek after o′ y (kids after d) ≡ seek v o x (kids v d)
+    found-same E d h e = rw (after-kids d e) (seek-same E (kids v d) (λ s c. kid-proper S d s h c))
+
+    along-same : {ps os : List Part} → SameNames o o′ ps os → (d : ℕ) → Seen v d → sort v d ≡ directory → along after o′ d os ≡ along v o d ps
+    unfolding along
+    along-same none-left d h e = refl
+    along-same (one-more E none-left) d h e = ap (λ x. last x d) (found-same E d h e)
+    along-same (one-more {x} E (one-more {x = y} {y = y′} {xs = r} {ys = r′} F N)) d h e =
+        go (seek v o x (kids v d)) refl (found-same E d h e) (along-same (one-more F N))
+      where
+        next : Bytes → Bytes → List Part → Option ℕ → Target
+        next w p ps u =
+            elim u [
+              | none ↦ noDirectory
+              | some s ↦ elim (isDirectory (sort w s)) [ true ↦ along w p s ps | false ↦ noDirectory ]
+            ]
+
+        go : {f : Option ℕ} (u : Option ℕ) → seek v o x (kids v d) ≡ u → f ≡ seek v o x (kids v d)
+            → ((s : ℕ) → Seen v s → sort v s ≡ directory → along after o′ s (y′ ∷ r′) ≡ along v o s (y ∷ r))
+            → next after o′ (y′ ∷ r′) f ≡ next v o (y ∷ r) (seek v o x (kids v d))
+        go none f g rec = rw (g, f) refl
+        go (some s) f g rec = rw (g, f) (into (sort v s) refl)
+          where
+            into : (K : Sort) → sort v s ≡ K → next after o′ (y′ ∷ r′) (some s) ≡ next v o (y ∷ r) (some s)
+            into inactive i = rw (after-sort s, i, next) refl
+            into directory i = rw (after-sort s, i, next) (rec s (kid-seen S d s h e (seek-some v o x (kids v d) s f .0)) i)
+            into improper i = rw (after-sort s, i, next) refl
+            into (file t) i = rw (after-sort s, i, next) refl
+
+  volume-found : (p o : Bytes) {ps os : List Part} → isNoVolume (lookup v p ps) ≡ false → FirstNamed p o q (part 0 j) ps os
+      → lookup after o os ≡ lookup v p ps
+  unfolding lookup isNoVolume
+  volume-found p o f (first-named {x} {y} {xs} {ys} E N) =
+      rw (bears-same after (at volume) o y (spelled-bears (spelled-sym E) after-bears), lookup) (go (sameName v (at volume) p x) f)
+    where
+      go : (b : Bool) → isNoVolume (elim b [ true ↦ along v p volume xs | false ↦ noVolume ]) ≡ false
+          → along after o volume ys ≡ elim b [ true ↦ along v p volume xs | false ↦ noVolume ]
+      go true g = along-same p o N volume (volume-seen S) (volume-directory S)
+      go false g = absurd (false≢true (sym g))
+
+  volume-gone : (o : Bytes) (x : Part) (xs : List Part) → (Spelled o x q (part 0 j) → ⊥) → lookup after o (x ∷ xs) ≡ noVolume
+  unfolding lookup
+  volume-gone o x xs off = go (sameName after (at volume) o x) refl
+    where
+      go : (b : Bool) → sameName after (at volume) o x ≡ b → elim b as (λ _. Target) [ true ↦ along after o volume xs | false ↦ noVolume ] ≡ noVolume
+      go true m = absurd (off (bears-spelled (same-bears after (at volume) o x m) after-bears))
+      go false m = refl
+
+-- The call.
+module _ (len : ℕ) (v p : Bytes) (k : ℕ) (q : Bytes) (j : ℕ) where
+  abbrev a : ℕ
+  a = spot (target v p k)
+
+  abbrev d : ℕ
+  d = home (target v p k)
+
+  open-name : (a ≡ volume → ⊥) → nameTaken v d a q j ≡ false → isOther a (seek v q (part 0 j) (kids v d)) ≡ false
+  unfolding nameTaken _and_
+  open-name z f = rw (ne-eqb a volume z) at f
+
+  renamed-is : renameNumber len v p k q j (target v p k) ≡ 0 → (a ≡ volume → ⊥) → Renamed (total len) v p k q j (renamed v a q j) d a
+  unfolding renameNumber spot
+  renamed-is e z =
+      let r = rows-off _ e refl in
+      let S = sound-facts (total len) v (not-false _ (r 1)) in
+      let proper : properName q 0 j ≡ true = and-right _ _ (not-false _ (r 2)) in
+      let E = entry-led S (target-led S p k) (r 3) (r 4) (r 5) z in
+      let free = open-name z (r 6) in
+      let R = path-reaches v p (parts p k) (r 3) (r 4) (λ f. z (ap spot f)) in
+      record {
+        sound = now-sound q j S (E .spot) (E .alive) proper free;
+        kept = now-sort q j S (E .spot) (E .alive) proper free;
+        found = λ o i N. now-found q j S (E .spot) (E .alive) proper free R o (parts o i) N;
+        gone = λ off o i N. now-gone q j S (E .spot) (E .alive) proper free R o (parts o i)
+            (seek-some v p (lastPart (parts p k)) (kids v d) a (E .found) .2) N off;
+      }
+
+  pub rename-gives : rename len v p k q j .number ≡ 0 → (spot (target v p k) ≡ volume → ⊥)
+      → Renamed (total len) v p k q j (rename len v p k q j .image) (home (target v p k)) (spot (target v p k))
+  unfolding rename settle
+  rename-gives e z = rw (done-image _ nothing v nothing _ e) (renamed-is e z)
+
+  pub rename-volume-gives : rename len v p k q j .number ≡ 0 → spot (target v p k) ≡ volume → VolumeRenamed (total len) v q j (rename len v p k q j .image)
+  unfolding rename settle renameNumber
+  rename-volume-gives e z =
+      let r = rows-off _ e refl in
+      let S = sound-facts (total len) v (not-false _ (r 1)) in
+      let proper : properName q 0 j ≡ true = and-right _ _ (not-false _ (r 2)) in
+      let whole : renamed v a q j ≡ named v (at volume) q j = unfold renamed in (rw (eq-eqb a volume z, renamed) refl) in
+      rw (done-image _ nothing v nothing _ e, whole)
+      (record {
+        sound = after-sound q j S proper;
+        found = λ p k f o i N. volume-found q j S proper p o f N;
+        gone = λ o i x xs f off. rw f (volume-gone q j S proper o x xs off);
+      })
