@@ -5,3 +5,5 @@ pub mod Counting
 pub mod Destroyed
 pub mod Resized
 pub mod Renamed
+pub mod Entered
+pub mod Extended
