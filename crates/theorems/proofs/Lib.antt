@@ -7,3 +7,4 @@ pub mod Resized
 pub mod Renamed
 pub mod Entered
 pub mod Extended
+pub mod Created

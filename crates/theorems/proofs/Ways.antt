@@ -275,18 +275,19 @@ above-good S A t j B l h e = let f = at-depth S A (rw e at B) in omega arith
 pub idle-good : {v : Bytes} {a : ℕ} (m : ℕ) → sort v a ≡ inactive → GoodAbove v (λ t. t ≡ a → ⊥) m
 idle-good m i t j B l h e = inactive-directory (sym i ∙ rw (← e) h)
 
+-- The slots of d stay.
+pub step-kids : {n : ℕ} {v w : Bytes} {a d : ℕ} → Step n v w a d → kids w d ≡ kids v d
+step-kids {v = v} {w} {d = d} T = kids-same v w d (one-keeps T d (T .spot .home) (one-apart T))
+
 -- The last name after a change of the entry a in d: it is a's, or it is nobody's.
 module _ {n : ℕ} {v w : Bytes} {a d : ℕ} (T : Step n v w a d) (S′ : Sound n w) {q : Bytes} {qs : List Part} {z : Part} (R : Reaches w q qs d z) where
   open Step T using (sound as S, spot as P)
-
-  step-kids : kids w d ≡ kids v d
-  step-kids = kids-same v w d (one-keeps T d (P .home) (one-apart T))
 
   pub last-found : isActive (sort w a) ≡ true → sameName w (at a) q z ≡ true → lookup w q qs ≡ there d a
   last-found f m =
       let A = reaches-at S′ R in
       reaches-lookup S′ R
-      ∙ rw (seek-one S′ q z d (at-seen S′ (A .0)) (A .1) a (rw step-kids (P .inside)) f m) (unfold last in refl)
+      ∙ rw (seek-one S′ q z d (at-seen S′ (A .0)) (A .1) a (rw (step-kids T) (P .inside)) f m) (unfold last in refl)
 
   pub last-gone : {p : Bytes} {y : Part} → isActive (sort v a) ≡ true → sameName v (at a) p y ≡ true → Spelled p y q z
       → (isActive (sort w a) ≡ true → sameName w (at a) q z ≡ true → ⊥) → lookup w q qs ≡ missing d
@@ -297,6 +298,6 @@ module _ {n : ℕ} {v w : Bytes} {a d : ℕ} (T : Step n v w a d) (S′ : Sound 
       none-there u c g h =
           at-or-off u a (λ e. off (rw (← e) g) (rw (← e) h))
           (λ k.
-          let c′ : 1 ≤ count u (kids v d) = rw step-kids at c in
+          let c′ : 1 ≤ count u (kids v d) = rw (step-kids T) at c in
           let O = one-entry T d u (P .home) c′ k in
           k (only-one S p y d (P .home) (P .holds) a u (P .inside) f m c′ (rw (← O .0) g) (near-back (named-near (O .1)) E h)))
