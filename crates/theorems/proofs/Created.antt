@@ -10,7 +10,7 @@ use borrow.Author.Tests.{eq-eqb, ltb-false}
 use Rattle.model.specs.Bytes.{Bytes, Octets}
 use Rattle.model.specs.Names.{Part, parts, properPath, properName}
 use Rattle.model.specs.Map.{room, lowest}
-use Rattle.model.specs.Directory.{directory, file, sortOf, sort, isActive, volume, mapPlace, mapBlock, activeCount, ftype, key, used, eof, kids, active, vacant, there, lookup}
+use Rattle.model.specs.Directory.{directory, file, sortOf, sort, isActive, volume, mapPlace, mapBlock, activeCount, ftype, key, used, eof, kids, active, vacant, missing, there, lookup}
 use Rattle.model.specs.Refusals.{settle}
 use Rattle.model.specs.Calls.{total, target, home, isThere, lastPart, nothing}
 use Rattle.model.specs.Create.{Wanted, directoryKind, lastBlock, gained, entered, createdAt, created, isFull, full, createNeed, createNumber, create}
@@ -24,7 +24,7 @@ use Rattle.model.proofs.Laws.Lookup.{rows-off, not-false, path-last, Home, open
 use Rattle.model.proofs.Laws.Extend.{Extends, grown-sound, grown-octets, grown-place}
 use Rattle.model.proofs.Laws.Created.{Wants, want-file, want-directory, wants, create-sound}
 use Rattle.model.proofs.Laws.Settled.{done-image}
-use Rattle.theorems.proofs.Ways.{spelled-self, Spelled, SameNames, names-self, under, at-seen, Reaches, path-reaches, reaches-at, reaches-names, reaches-carried, step-kids}
+use Rattle.theorems.proofs.Ways.{spelled-self, Spelled, SameNames, names-self, under, at-seen, Reaches, path-reaches, is-missing, reaches-at, reaches-names, reaches-carried, step-kids}
 use Rattle.theorems.proofs.Entered.{Enters, made-step, made-room, made-sort, made-key, made-used, made-type, made-eof, made-none, made-reaches, made-found}
 use Rattle.theorems.proofs.Extended.{vacant-some, full-low, grown-top, grown-carries, grown-room}
 
@@ -159,7 +159,7 @@ module _ {n : ℕ} {v : Bytes} {d k : ℕ} {p : Bytes} {ps : List Part} {x : Par
 
 -- What an accepted create of the path p of k bytes does to the volume v of n blocks.
 pub record Created (n : ℕ) (v p : Bytes) (k : ℕ) (w : Wanted) (u : Bytes) : Type 0 where
-  pub sound : Sound n u
+  pub was : target v p k ≡ missing (home (target v p k))
   pub slot : ℕ
   pub found : target u p k ≡ there (home (target v p k)) slot
   -- by every other spelling too
@@ -184,7 +184,7 @@ module _ (len : ℕ) (v p : Bytes) (k : ℕ) (w : Wanted) (octets : Octets v) wh
       (λ f z. false≢true (sym (r 8) ∙ and-both _ _ (eq-eqb d volume z) f))
       (rw (S .place) at (ltb-false (room (mapBlock v) v (total len)) (createNeed v d) (r 9))) S′ in
       record {
-        sound = S′;
+        was = is-missing (target v p k) (r 5) (r 6) (r 7);
         slot = M .slot;
         found = M .found p (parts p k) (names-self p (parts p k));
         spelled = λ o i N. M .found o (parts o i) N;

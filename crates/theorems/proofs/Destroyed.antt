@@ -26,7 +26,7 @@ use Rattle.model.proofs.Laws.One.{Place, in-slot, in-count, Apart, Step, slot-m
 use Rattle.model.proofs.Laws.Lookup.{rows-off, not-false, Entry, entry-led, target-led, seek-some}
 use Rattle.model.proofs.Laws.Destroy.{all-out, all-free, Destroys, gone-sound, done}
 use Rattle.model.proofs.Laws.Settled.{done-image}
-use Rattle.theorems.proofs.Ways.{SameNames, names-self, under, Reaches, path-reaches, reaches-at, reaches-names, reaches-carried, step-carries, step-top, above-good, last-gone}
+use Rattle.theorems.proofs.Ways.{SameNames, names-self, under, Reaches, path-reaches, is-there, reaches-at, reaches-names, reaches-carried, step-carries, step-top, above-good, last-gone}
 use Rattle.theorems.proofs.Counting.{room-list}
 
 module _ {n : ℕ} {v : Bytes} {a d : ℕ} (D : Destroys n v a d) where
@@ -88,7 +88,7 @@ module _ {n : ℕ} {v : Bytes} {a d : ℕ} (D : Destroys n v a d) where
 
 -- What an accepted destroy of the path p of k bytes does to the volume v of n blocks.
 pub record Destroyed (n : ℕ) (v p : Bytes) (k : ℕ) (w : Bytes) : Type 0 where
-  pub sound : Sound n w
+  pub was : target v p k ≡ there (home (target v p k)) (spot (target v p k))
   pub gone : target w p k ≡ missing (home (target v p k))
   -- by every other spelling too
   pub nowhere : (q : Bytes) (i : ℕ) → SameNames p q (parts p k) (parts q i) → target w q i ≡ missing (home (target v p k))
@@ -109,7 +109,7 @@ module _ (len : ℕ) (v p : Bytes) (k : ℕ) (octets : Octets v) where
       let R = path-reaches v p (parts p k) (r 3) (r 4) (λ f. P .proper (ap spot f)) in
       let m = seek-some v p (lastPart (parts p k)) (kids v (home (target v p k))) (spot (target v p k)) (E .found) .2 in
       record {
-        sound = gone-sound D;
+        was = is-there (target v p k) (r 3) (r 4) (r 5);
         gone = gone-missing D (parts p k) (parts p k) (E .alive) m R (names-self p (parts p k));
         nowhere = λ q i N. gone-missing D (parts p k) (parts q i) (E .alive) m R N;
         idle = gone-sort D;

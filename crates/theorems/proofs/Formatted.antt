@@ -20,7 +20,7 @@ use Rattle.model.proofs.ByteLaws.{put-off, paste-at, paste-before, paste-after,
 use Rattle.model.proofs.BitLaws.{mapAt-in, fresh-free, fresh-yes, fresh-no, fresh-room}
 use Rattle.model.proofs.RefusalLaws.{first-passes}
 use Rattle.model.proofs.SumLaws.{sum-mem}
-use Rattle.model.proofs.Laws.Sound.{and-right, and-both, Sound}
+use Rattle.model.proofs.Laws.Sound.{and-right, and-both}
 use Rattle.model.proofs.Laws.Facts.{volume-seen, volume-directory, seen-directory}
 use Rattle.model.proofs.Laws.Spelling.{within-is, within-in, Bears, bears-same, stored}
 use Rattle.model.proofs.Laws.Lookup.{rows-off, not-false, name-size}
@@ -31,7 +31,6 @@ use Rattle.model.proofs.Laws.Format.{new-sound}
 
 -- A volume v of n blocks as format leaves it, with the name q of j bytes.
 pub record Formatted (n : ℕ) (v q : Bytes) (j : ℕ) : Type 0 where
-  pub sound : Sound n v
   pub named : sameName v (at volume) q (part 0 j) ≡ true
   pub spelled : (i : ℕ) → i < j → v (at volume + 1 + i) ≡ capital (q i)
   pub counted : activeCount v volumeBlock ≡ 0
@@ -112,7 +111,6 @@ module _ (n : ℕ) (q : Bytes) (j : ℕ) (t : Stamp) (large : 16 ≤ n) (small :
       let none : active new (kids new volume) ≡ 0 =
       sym (seen-directory S volume (volume-seen S) (volume-directory S) .counted) ∙ (unfold field in new-count) in
       record {
-        sound = S;
         named = bears-same new (at volume) q (part 0 j) new-bears;
         spelled = λ i l. new-bears .spelled i l ∙ ap (λ (k : ℕ). capital (q k)) (zero-add i);
         counted = new-count;

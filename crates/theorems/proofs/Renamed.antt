@@ -28,8 +28,8 @@ use Rattle.model.proofs.Laws.Spelling.{Bears, same-bears, bears-same, stored}
 use Rattle.model.proofs.Laws.Relabel.{marks-step, relabel-sound}
 use Rattle.model.proofs.Laws.Lookup.{rows-off, not-false, name-size, entry-led, target-led, seek-some}
 use Rattle.model.proofs.Laws.Settled.{done-image}
-use Rattle.model.proofs.Laws.Rename.{now-relabels, after-sound}
-use Rattle.theorems.proofs.Ways.{Spelled, spelled-sym, spelled-trans, spelled-bears, bears-spelled, same-spelled, Names, SameNames, none-left, one-more, under, Reaches, path-reaches, reaches-at, reaches-names, reaches-carried, step-carries, step-top, above-good, last-found, last-gone}
+use Rattle.model.proofs.Laws.Rename.{now-relabels}
+use Rattle.theorems.proofs.Ways.{Spelled, spelled-sym, spelled-trans, spelled-bears, bears-spelled, same-spelled, Names, SameNames, names-self, none-left, one-more, under, Reaches, path-reaches, is-there, reaches-at, reaches-names, reaches-carried, step-carries, step-top, above-good, last-found, last-gone}
 
 -- An entry.
 module _ {n : ℕ} {v : Bytes} {a d : ℕ} (q : Bytes) (j : ℕ) (S : Sound n v) (P : Place v a d) (alive : isActive (sort v a) ≡ true)
@@ -86,13 +86,15 @@ module _ {n : ℕ} {v : Bytes} {a d : ℕ} (q : Bytes) (j : ℕ) (S : Sound n v)
         (λ _ h. off (spelled-trans (C .2) (bears-spelled (same-bears now (at a) o (C .0) h) now-bears)))
 
 -- What an accepted rename of the path p of k bytes to the name q of j bytes does, where it leads to the entry a of the directory d.
-pub record Renamed (n : ℕ) (v p : Bytes) (k : ℕ) (q : Bytes) (j : ℕ) (w : Bytes) (d a : ℕ) : Type 0 where
-  pub sound : Sound n w
+pub record Renamed (v p : Bytes) (k : ℕ) (q : Bytes) (j : ℕ) (w : Bytes) (d a : ℕ) : Type 0 where
+  pub was : target v p k ≡ there d a
   pub kept : sort w a ≡ sort v a
   -- every path with the names of p but the last, which is q
   pub found : (o : Bytes) (i : ℕ) → Names p o (λ _ z. Spelled o z q (part 0 j)) (parts p k) (parts o i) → target w o i ≡ there d a
-  -- every path with the names of p, unless the last is q already
-  pub gone : (Spelled p (lastPart (parts p k)) q (part 0 j) → ⊥)
+  -- the path p itself, unless its last name is q already
+  pub gone : (Spelled p (lastPart (parts p k)) q (part 0 j) → ⊥) → target w p k ≡ missing d
+  -- and in every other spelling
+  pub nowhere : (Spelled p (lastPart (parts p k)) q (part 0 j) → ⊥)
       → (o : Bytes) (i : ℕ) → SameNames p o (parts p k) (parts o i) → target w o i ≡ missing d
 
 -- The first name of a path is the name z of q, the others are those of another path.
@@ -100,8 +102,7 @@ pub data FirstNamed (p o q : Bytes) (z : Part) : List Part → List Part → Typ
   first-named : {x y : Part} {xs ys : List Part} → Spelled o y q z → SameNames p o xs ys → FirstNamed p o q z (x ∷ xs) (y ∷ ys)
 
 -- The same where it leads to the volume: what every other path leads to.
-pub record VolumeRenamed (n : ℕ) (v q : Bytes) (j : ℕ) (w : Bytes) : Type 0 where
-  pub sound : Sound n w
+pub record VolumeRenamed (v q : Bytes) (j : ℕ) (w : Bytes) : Type 0 where
   -- where a path led, the path with the new first name leads
   pub found : (p : Bytes) (k : ℕ) → isNoVolume (target v p k) ≡ false → (o : Bytes) (i : ℕ) → FirstNamed p o q (part 0 j) (parts p k) (parts o i)
       → target w o i ≡ target v p k
@@ -211,7 +212,7 @@ module _ (len : ℕ) (v p : Bytes) (k : ℕ) (q : Bytes) (j : ℕ) where
   unfolding nameTaken _and_
   open-name z f = rw (ne-eqb a volume z) at f
 
-  renamed-is : renameNumber len v p k q j (target v p k) ≡ 0 → (a ≡ volume → ⊥) → Renamed (total len) v p k q j (renamed v a q j) d a
+  renamed-is : renameNumber len v p k q j (target v p k) ≡ 0 → (a ≡ volume → ⊥) → Renamed v p k q j (renamed v a q j) d a
   unfolding renameNumber spot
   renamed-is e z =
       let r = rows-off _ e refl in
@@ -220,20 +221,24 @@ module _ (len : ℕ) (v p : Bytes) (k : ℕ) (q : Bytes) (j : ℕ) where
       let E = entry-led S (target-led S p k) (r 3) (r 4) (r 5) z in
       let free = open-name z (r 6) in
       let R = path-reaches v p (parts p k) (r 3) (r 4) (λ f. z (ap spot f)) in
+      let bears = seek-some v p (lastPart (parts p k)) (kids v d) a (E .found) .2 in
+      let gone : (Spelled p (lastPart (parts p k)) q (part 0 j) → ⊥) → (o : Bytes) (os : List Part) → SameNames p o (parts p k) os
+      → lookup (renamed v a q j) o os ≡ missing d =
+      λ off o os N. now-gone q j S (E .spot) (E .alive) proper free R o os bears N off in
       record {
-        sound = now-sound q j S (E .spot) (E .alive) proper free;
+        was = is-there (target v p k) (r 3) (r 4) (r 5);
         kept = now-sort q j S (E .spot) (E .alive) proper free;
         found = λ o i N. now-found q j S (E .spot) (E .alive) proper free R o (parts o i) N;
-        gone = λ off o i N. now-gone q j S (E .spot) (E .alive) proper free R o (parts o i)
-            (seek-some v p (lastPart (parts p k)) (kids v d) a (E .found) .2) N off;
+        gone = λ off. gone off p (parts p k) (names-self p (parts p k));
+        nowhere = λ off o i N. gone off o (parts o i) N;
       }
 
   pub rename-gives : rename len v p k q j .number ≡ 0 → (spot (target v p k) ≡ volume → ⊥)
-      → Renamed (total len) v p k q j (rename len v p k q j .image) (home (target v p k)) (spot (target v p k))
+      → Renamed v p k q j (rename len v p k q j .image) (home (target v p k)) (spot (target v p k))
   unfolding rename settle
   rename-gives e z = rw (done-image _ nothing v nothing _ e) (renamed-is e z)
 
-  pub rename-volume-gives : rename len v p k q j .number ≡ 0 → spot (target v p k) ≡ volume → VolumeRenamed (total len) v q j (rename len v p k q j .image)
+  pub rename-volume-gives : rename len v p k q j .number ≡ 0 → spot (target v p k) ≡ volume → VolumeRenamed v q j (rename len v p k q j .image)
   unfolding rename settle renameNumber
   rename-volume-gives e z =
       let r = rows-off _ e refl in
@@ -242,7 +247,6 @@ module _ (len : ℕ) (v p : Bytes) (k : ℕ) (q : Bytes) (j : ℕ) where
       let whole : renamed v a q j ≡ named v (at volume) q j = unfold renamed in (rw (eq-eqb a volume z, renamed) refl) in
       rw (done-image _ nothing v nothing _ e, whole)
       (record {
-        sound = after-sound q j S proper;
         found = λ p k f o i N. volume-found q j S proper p o f N;
         gone = λ o i x xs f off. rw f (volume-gone q j S proper o x xs off);
       })

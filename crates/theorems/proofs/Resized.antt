@@ -1,4 +1,5 @@
--- Set EOF: the file keeps its paths, and with its blocks the free ones stay as many; growth takes just the new keys.
+-- Write and set EOF: every path leads where it led, and the blocks of the file and the free ones stay as many together. Growth by set EOF takes just the
+-- new keys.
 use Prim.Native.Nat.{ℕ, _+_, _-_, _≤_, _<_}
 use mathlib.Core.Path.{_≡_, refl, sym, ap, _∙_}
 use mathlib.Core.Bool.{Bool, true, false}
@@ -10,7 +11,7 @@ use Rattle.model.specs.Bytes.{Bytes, Octets}
 use Rattle.model.specs.Map.{room}
 use Rattle.model.specs.Directory.{file, sort, mapPlace, mapBlock, key, used, eof}
 use Rattle.model.specs.File.{eofMost, span, heightFor, height, blocks}
-use Rattle.model.specs.Write.{noted, grown, grownKey}
+use Rattle.model.specs.Write.{noted, grown, grownKey, write}
 use Rattle.model.specs.SetEof.{sunk, sunkKey, pruned, shrunkKey, shrunk, eofSet, setEofNumber, setEof}
 use Rattle.model.specs.Calls.{total, home, spot, target, nothing}
 use Rattle.model.specs.Refusals.{settle}
@@ -28,6 +29,7 @@ use Rattle.model.proofs.Laws.Lookup.{rows-off, entry-led, target-led}
 use Rattle.model.proofs.Laws.Paths.{target-same}
 use Rattle.model.proofs.Laws.Settled.{done-image}
 use Rattle.model.proofs.Laws.Opened.{Opened, opened, file-is}
+use Rattle.model.proofs.Laws.Written.{write-opened, write-done}
 use Rattle.model.proofs.Laws.Reset.{set-eof-opened, set-eof-done}
 
 -- After a call on one file its blocks used are its blocks.
@@ -90,13 +92,27 @@ module _ {n : ℕ} {v : Bytes} {a d h : ℕ} (R : Ready n v a d h) (e : ℕ) (t 
       go true s = let l = ltb-true (eof v a) e s in longer (omega arith) enough
       go false s = shorter (ltb-false (eof v a) e s)
 
--- What an accepted set EOF to e does to the volume v of n blocks.
-pub record Resized (n : ℕ) (v : Bytes) (a : ℕ) (w : Bytes) (e : ℕ) : Type 0 where
-  pub sound : Sound n w
-  pub ends : eof w a ≡ e
+-- What an accepted write keeps, beside what `write-done` says of it.
+pub record Level (n : ℕ) (v : Bytes) (a : ℕ) (w : Bytes) : Type 0 where
   pub paths : (q : Bytes) (i : ℕ) → target w q i ≡ target v q i
   pub level : room mapPlace w n + length (blocks w a) ≡ room mapPlace v n + length (blocks v a)
-  pub keys : eof v a < e → room mapPlace w n + (heightFor e - height (sort v a)) ≡ room mapPlace v n
+
+pub write-level : (len : ℕ) (v p : Bytes) (k pos : ℕ) (buffer : Bytes) (size : ℕ) (t : Stamp) → Octets v → Octets buffer
+    → write len v p k pos buffer size t .number ≡ 0 → Level (total len) v (spot (target v p k)) (write len v p k pos buffer size t .image)
+write-level len v p k pos buffer size t octets lent z =
+    let O = write-opened len v p k pos buffer size t octets lent z in
+    let W = write-done len v p k pos buffer size t octets lent z in
+    record {
+      paths = λ q i. target-same (O .ready .sound) (W .done .names) q i;
+      level = omega (arith, W .takes, W .spends, used-before O, used-after O (W .done));
+    }
+
+-- What an accepted set EOF to e does to the volume v of n blocks.
+pub record Resized (n : ℕ) (v : Bytes) (a : ℕ) (w : Bytes) (e : ℕ) : Type 0 where
+  pub paths : (q : Bytes) (i : ℕ) → target w q i ≡ target v q i
+  pub level : room mapPlace w n + length (blocks w a) ≡ room mapPlace v n + length (blocks v a)
+  pub takes : eof v a < e → used w a ≡ used v a + (heightFor e - height (sort v a))
+  pub spends : eof v a < e → room mapPlace w n + (heightFor e - height (sort v a)) ≡ room mapPlace v n
 
 module _ (len : ℕ) (v p : Bytes) (k e : ℕ) (t : Stamp) (octets : Octets v) where
   call-balance : setEofNumber len v p k e (target v p k) ≡ 0 → (O : Opened len v p k)
@@ -117,9 +133,8 @@ module _ (len : ℕ) (v p : Bytes) (k e : ℕ) (t : Stamp) (octets : Octets v) w
       let B : Balance (total len) v (spot (target v p k)) (O .tall) (setEof len v p k e t .image) e =
       unfold setEof settle in (rw (done-image _ nothing v nothing _ z) (call-balance z O)) in
       record {
-        sound = D .sound;
-        ends = D .ends;
         paths = λ q i. target-same (O .ready .sound) (D .names) q i;
         level = omega (arith, B .level, used-before O, used-after O D);
-        keys = λ l. rw (O .ready .kind) (B .keys l);
+        takes = λ l. rw (O .ready .kind) (omega (arith, B .level, B .keys l));
+        spends = λ l. rw (O .ready .kind) (B .keys l);
       }

@@ -10,7 +10,7 @@ use borrow.Author.Tests.{eqb-true, eqb-false}
 use Rattle.model.specs.Bytes.{Bytes, sum, count, is, _and_}
 use Rattle.model.specs.Names.{Part, capital, capitals, sameName}
 use Rattle.model.specs.Directory.{Sort, inactive, directory, improper, file, sort, isActive, isDirectory, at, volume, volumeBlock, kids, seek, Target, noVolume, noDirectory, missing, there, last, along, lookup}
-use Rattle.model.specs.Calls.{isNoVolume, isNoDirectory, home, spot, lastPart}
+use Rattle.model.specs.Calls.{isNoVolume, isNoDirectory, isMissing, isThere, home, spot, lastPart}
 use Rattle.model.proofs.ByteLaws.{at-or-off, equal-cong}
 use Rattle.model.proofs.SumLaws.{is-self}
 use Rattle.model.proofs.BitLaws.{is-no}
@@ -217,6 +217,21 @@ reaches-lookup S (reached m L) = rw (m, lookup) (leads-along S (volume-seen S) (
 pub reaches-names : {v p q : Bytes} {ps qs : List Part} {d : ℕ} {y : Part} → Reaches v p ps d y → SameNames p q ps qs
     → Names p q (λ x y. Spelled p x q y) ps qs
 reaches-names (reached m L) N = same-names N
+
+-- a target whose kind is known
+pub is-there : (t : Target) → isNoVolume t ≡ false → isNoDirectory t ≡ false → isMissing t ≡ false → t ≡ there (home t) (spot t)
+unfolding isNoVolume isNoDirectory isMissing home spot
+is-there noVolume e f g = absurd (false≢true (sym e))
+is-there noDirectory e f g = absurd (false≢true (sym f))
+is-there (missing d) e f g = absurd (false≢true (sym g))
+is-there (there d s) e f g = refl
+
+pub is-missing : (t : Target) → isNoVolume t ≡ false → isNoDirectory t ≡ false → isThere t ≡ false → t ≡ missing (home t)
+unfolding isNoVolume isNoDirectory isThere home
+is-missing noVolume e f g = absurd (false≢true (sym e))
+is-missing noDirectory e f g = absurd (false≢true (sym f))
+is-missing (missing d) e f g = refl
+is-missing (there d s) e f g = absurd (false≢true (sym g))
 
 -- What a call keeps for the ways: the directories but those that are not `good` stay in their directories, under their names.
 pub record Carries (v w : Bytes) (good : ℕ → Type 0) : Type 0 where
