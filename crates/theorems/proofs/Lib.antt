@@ -8,3 +8,4 @@ pub mod Renamed
 pub mod Entered
 pub mod Extended
 pub mod Created
+pub mod Examples
