@@ -3,14 +3,14 @@
 use Prim.Native.Nat.{ℕ, _+_, _-_, _≤_, _<_}
 use mathlib.Core.Path.{_≡_, refl, sym, ap, _∙_}
 use mathlib.Core.Bool.{Bool, true, false}
-use lib.Dec.{ltb}
+use lib.Dec.{leb, ltb}
 use lib.ListN.{length}
 use native.Mathlib.Omega.{arith}
 use borrow.Author.Tests.{ltb-true, ltb-false}
-use Rattle.model.specs.Bytes.{Bytes, Octets}
+use Rattle.model.specs.Bytes.{Bytes, Octets, one-if}
 use Rattle.model.specs.Map.{room}
 use Rattle.model.specs.Directory.{file, sort, mapPlace, mapBlock, key, used, eof}
-use Rattle.model.specs.File.{eofMost, span, heightFor, height, blocks}
+use Rattle.model.specs.File.{eofMost, span, firstBelow, heightFor, height, blocks}
 use Rattle.model.specs.Write.{noted, grown, grownKey, write}
 use Rattle.model.specs.SetEof.{sunk, sunkKey, pruned, shrunkKey, shrunk, eofSet, setEofNumber, setEof}
 use Rattle.model.specs.Calls.{total, home, spot, target, nothing}
@@ -18,13 +18,14 @@ use Rattle.model.specs.Refusals.{settle}
 use Rattle.model.specs.declared.Stamp.{Stamp}
 use Rattle.model.proofs.Laws.Sound.{Sound}
 use Rattle.model.proofs.Laws.Facts.{seen-file, seen-proper}
-use Rattle.model.proofs.Laws.Weigh.{weigh, tardy, size}
+use Rattle.model.proofs.Laws.Weigh.{Gauge, weigh, each, tardy, size, weigh-le, weigh-add}
 use Rattle.model.proofs.Laws.Move.{Move, move-fit, move-then}
 use Rattle.model.proofs.Laws.Room.{first-zero, move-room}
-use Rattle.model.proofs.Laws.Entry.{Ready, fit, was-tall, was-used, Done, called-used, called-room}
+use Rattle.model.proofs.Laws.Data.{when}
+use Rattle.model.proofs.Laws.Entry.{Ready, fit, was-tall, was-used, was-late, Done, called-used, called-room}
 use Rattle.model.proofs.Laws.Grown.{height-le, span-some, grow}
 use Rattle.model.proofs.Laws.Give.{sunk-move}
-use Rattle.model.proofs.Laws.Prune.{Pruned, prune, prune-move, prune-late}
+use Rattle.model.proofs.Laws.Prune.{early, Pruned, prune, prune-move, prune-late}
 use Rattle.model.proofs.Laws.Lookup.{rows-off, entry-led, target-led}
 use Rattle.model.proofs.Laws.Paths.{target-same}
 use Rattle.model.proofs.Laws.Settled.{done-image}
@@ -52,11 +53,30 @@ module _ {len : ℕ} {v p : Bytes} {k : ℕ} (O : Opened len v p k) where
 -- the file a of height h, as its entry counts its blocks
 record Balance (n : ℕ) (v : Bytes) (a h : ℕ) (w : Bytes) (e : ℕ) : Type 0 where
   level : room mapPlace w n + used w a ≡ room mapPlace v n + used v a
-  keys : eof v a < e → room mapPlace w n + (heightFor e - h) ≡ room mapPlace v n
+  keys : eof v a ≤ e → room mapPlace w n + (heightFor e - h) ≡ room mapPlace v n
+
+-- where nothing is late, nothing is cut off
+timely-size : (s : ℕ) (v : Bytes) (h k : ℕ) → weigh (tardy s) v h 0 k ≡ 0 → weigh (early s (each (λ _. 1))) v h 0 k ≡ size v h 0 k
+timely-size s v h k z =
+    let cut : Gauge = early s (each (λ _. 1)) in
+    omega (
+      arith,
+      weigh-le (each (λ _. 1)) (λ l r b. cut l r b + tardy s l r b) v h 0 k (λ l r b _. one (leb s (firstBelow l r))),
+      weigh-le cut (each (λ _. 1)) v h 0 k (λ l r b _. most (leb s (firstBelow l r))),
+      weigh-add cut (tardy s) v h 0 k,
+    )
+  where
+    one : (b : Bool) → 1 ≤ when b 0 1 + one-if b
+    one true = omega arith
+    one false = omega arith
+
+    most : (b : Bool) → when b 0 1 ≤ 1
+    most true = omega arith
+    most false = omega arith
 
 module _ {n : ℕ} {v : Bytes} {a d h : ℕ} (R : Ready n v a d h) (e : ℕ) (t : Stamp) (small : e < 16777216) where
   balance : {w : Bytes} {k : ℕ} → Move n v h 0 (key v a) w (heightFor e) 0 k → weigh (tardy (span e)) w (heightFor e) 0 k ≡ 0
-      → (eof v a < e → size w (heightFor e) 0 k ≡ size v h 0 (key v a) + (heightFor e - h))
+      → (eof v a ≤ e → size w (heightFor e) 0 k ≡ size v h 0 (key v a) + (heightFor e - h))
       → Balance n v a h (noted w a (heightFor e) k e t) e
   balance T ends more =
       let r = called-room R T e t small refl ends in
@@ -68,6 +88,17 @@ module _ {n : ℕ} {v : Bytes} {a d h : ℕ} (R : Ready n v a d h) (e : ℕ) (t 
       → Balance n v a h (noted (grown mapPlace n v a e) a (heightFor e) (grownKey mapPlace n v a e) e t) e
   longer l enough = let G = grow R e l small enough in balance (G .move) (G .ends) (λ _. G .more)
 
+  -- EOF stays: no key gives way, and no file block is late
+  same-size : e ≡ eof v a
+      → weigh (early (span e) (each (λ _. 1))) (sunk mapPlace v (heightFor e) (key v a) (h - heightFor e)) (heightFor e) 0
+      (sunkKey mapPlace v (heightFor e) (key v a) (h - heightFor e))
+      ≡ size v h 0 (key v a) + (heightFor e - h)
+  unfolding sunk sunkKey
+  same-size i =
+      let t : heightFor e ≡ h = rw i (sym (was-tall R)) in
+      let z : h - heightFor e ≡ 0 = omega arith in
+      rw (z, t) (omega (arith, timely-size (span e) v h (key v a) (rw i (was-late R))))
+
   shorter : e ≤ eof v a → Balance n v a h (noted (shrunk mapPlace v a e) a (heightFor e) (shrunkKey mapPlace v a e) e t) e
   unfolding shrunk shrunkKey
   shorter l =
@@ -77,7 +108,7 @@ module _ {n : ℕ} {v : Bytes} {a d h : ℕ} (R : Ready n v a d h) (e : ℕ) (t 
       let A : Move n v h 0 (key v a) f (heightFor e) 0 k = sunk-move n (h - heightFor e) h (heightFor e) (key v a) v (omega arith) (fit R) in
       let B : Pruned n (span e) f (heightFor e) 0 k (pruned mapPlace (span e) f (heightFor e) 0 k) =
       prune n (span e) (heightFor e) 0 k f (move-fit (fit R) A) (rw (first-zero (heightFor e)) (span-some e)) in
-      rw (R .kind) (balance (move-then A (prune-move B)) (prune-late B) (λ m. absurd (omega arith)))
+      rw (R .kind) (balance (move-then A (prune-move B)) (prune-late B) (λ m. B .stays (each (λ _. 1)) ∙ same-size (omega arith)))
 
   set-balance : heightFor e - h ≤ room mapPlace v n → Balance n v a h (eofSet mapPlace n v a e t) e
   unfolding eofSet
@@ -111,8 +142,8 @@ write-level len v p k pos buffer size t octets lent z =
 pub record Resized (n : ℕ) (v : Bytes) (a : ℕ) (w : Bytes) (e : ℕ) : Type 0 where
   pub paths : (q : Bytes) (i : ℕ) → target w q i ≡ target v q i
   pub level : room mapPlace w n + length (blocks w a) ≡ room mapPlace v n + length (blocks v a)
-  pub takes : eof v a < e → used w a ≡ used v a + (heightFor e - height (sort v a))
-  pub spends : eof v a < e → room mapPlace w n + (heightFor e - height (sort v a)) ≡ room mapPlace v n
+  pub takes : eof v a ≤ e → used w a ≡ used v a + (heightFor e - height (sort v a))
+  pub spends : eof v a ≤ e → room mapPlace w n + (heightFor e - height (sort v a)) ≡ room mapPlace v n
 
 module _ (len : ℕ) (v p : Bytes) (k e : ℕ) (t : Stamp) (octets : Octets v) where
   call-balance : setEofNumber len v p k e (target v p k) ≡ 0 → (O : Opened len v p k)
