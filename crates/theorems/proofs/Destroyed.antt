@@ -1,29 +1,28 @@
 -- Destroy: the path leads to nothing, in the directory it led to, and the blocks of the entry are free.
-use Prim.Native.Nat.{ℕ, suc, _+_, _-_, _*_, _≤_, _<_}
-use mathlib.Core.Path.{_≡_, refl, sym, ap, _∙_}
+use Prim.Native.Nat.{ℕ, _+_, _-_, _*_, _≤_, _<_}
+use mathlib.Core.Path.{_≡_, refl, ap, _∙_}
 use mathlib.Core.List.{List}
-use mathlib.Core.Bool.{Bool, true, false, not, false≢true}
+use mathlib.Core.Bool.{Bool, true, false, false≢true}
 use lib.Dec.{ltb}
 use lib.ListN.{length}
 use native.Mathlib.Omega.{arith}
 use borrow.Author.Tests.{ltb-true, ltb-false}
 use Rattle.model.specs.Bytes.{Bytes, Octets, count}
 use Rattle.model.specs.Names.{Part, parts, sameName}
-use Rattle.model.specs.Map.{mapAt, mapBlocks, free, room}
-use Rattle.model.specs.Directory.{inactive, sortOf, sort, isActive, at, volume, mapPlace, key, kids, missing, there, last, lookup}
+use Rattle.model.specs.Map.{mapAt, free, room}
+use Rattle.model.specs.Directory.{inactive, sortOf, sort, isActive, at, volume, mapPlace, key, kids, missing, there, lookup}
 use Rattle.model.specs.File.{blocks}
 use Rattle.model.specs.Refusals.{settle}
 use Rattle.model.specs.Calls.{total, target, home, spot, lastPart, givenAll, nothing}
 use Rattle.model.specs.Destroy.{destroyed, destroyNumber, destroy}
-use Rattle.model.proofs.ByteLaws.{at-or-off, put-at, put-off, putWord-out}
+use Rattle.model.proofs.ByteLaws.{put-at, put-off, putWord-out}
 use Rattle.model.proofs.BitLaws.{free-most, mapAt-in, MapSame, same-free}
 use Rattle.model.proofs.Laws.Total.{total-one}
-use Rattle.model.proofs.Laws.Sound.{deep, top, Sound, sound-facts}
-use Rattle.model.proofs.Laws.Keep.{sort-at, kids-same}
+use Rattle.model.proofs.Laws.Sound.{deep, top, sound-facts}
+use Rattle.model.proofs.Laws.Keep.{sort-at}
 use Rattle.model.proofs.Laws.Facts.{own-mine, mine-in, mine-once, mine-off}
-use Rattle.model.proofs.Laws.Near.{named-near}
-use Rattle.model.proofs.Laws.One.{Place, in-slot, in-count, Apart, Step, slot-map, head-mine, one-apart, one-keeps, one-entry}
-use Rattle.model.proofs.Laws.Lookup.{rows-off, not-false, Entry, entry-led, target-led, seek-some}
+use Rattle.model.proofs.Laws.One.{in-slot, in-count, Apart, Step, slot-map, head-mine}
+use Rattle.model.proofs.Laws.Lookup.{rows-off, not-false, entry-led, target-led, seek-some}
 use Rattle.model.proofs.Laws.Destroy.{all-out, all-free, Destroys, gone-sound, done}
 use Rattle.model.proofs.Laws.Settled.{done-image}
 use Rattle.theorems.proofs.Ways.{SameNames, names-self, under, Reaches, path-reaches, is-there, reaches-at, reaches-names, reaches-carried, step-carries, step-top, above-good, last-gone}

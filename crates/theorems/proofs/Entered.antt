@@ -1,5 +1,5 @@
 -- A new entry in the inactive slot a of the directory d, with the free block z: what stands there, where its path leads, and that one block is taken.
-use Prim.Native.Nat.{ℕ, suc, _+_, _-_, _*_, _≤_, _<_, _/_}
+use Prim.Native.Nat.{ℕ, _+_, _-_, _*_, _≤_, _<_, _/_}
 use mathlib.Core.Path.{_≡_, refl, sym, ap, _∙_}
 use mathlib.Core.List.{List}
 use mathlib.Core.Bool.{Bool, true, false}
@@ -8,9 +8,9 @@ use native.Mathlib.Omega.{arith}
 use native.Mathlib.Nat.{add-assoc}
 use borrow.Author.Tests.{eq-eqb}
 use Rattle.model.specs.Bytes.{Bytes, Octets, is, paste, word}
-use Rattle.model.specs.Names.{Part, properName, sameName}
-use Rattle.model.specs.Map.{mapAt, mapBlocks, free, room, taken}
-use Rattle.model.specs.Directory.{inactive, directory, file, sortOf, sort, isActive, at, volumeBlock, volumeLength, mapPlace, activeCount, field, ftype, key, used, eof, kids, there, lookup}
+use Rattle.model.specs.Names.{Part, properName}
+use Rattle.model.specs.Map.{mapAt, free, room, taken}
+use Rattle.model.specs.Directory.{inactive, sortOf, sort, isActive, at, volumeBlock, volumeLength, mapPlace, activeCount, field, ftype, key, used, eof, there, lookup}
 use Rattle.model.specs.Create.{Wanted, directoryKind, entryBytes, subdirectoryHeader, entered}
 use Rattle.model.proofs.ByteLaws.{paste-in, paste-at, paste-out, putWord-out, word-same, long-same}
 use Rattle.model.proofs.BitLaws.{mapAt-in, mapAt-off, taken-out, taken-free, MapSame, same-free, room-one}

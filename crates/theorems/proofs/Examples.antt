@@ -1,9 +1,9 @@
 -- Each theorem at work on the volume of case 2: LOG is in slot 2 of block 2 (place 27), DAYS in slot 3 (28), DAYS/D1 in slot 2 of block 8 (105), and
 -- 6 blocks are free. What is computed is computed of that volume; what is said of the volume after a call comes from the theorem.
-use Prim.Native.Nat.{ℕ, zero, suc, _+_, _-_, _*_, _≤_, _<_}
-use mathlib.Core.Path.{_≡_, refl, sym, ap, _∙_}
+use Prim.Native.Nat.{ℕ, zero, suc, _*_}
+use mathlib.Core.Path.{_≡_, refl, ap, _∙_}
 use mathlib.Core.List.{List, [], _∷_}
-use mathlib.Core.Bool.{Bool, true, false}
+use mathlib.Core.Bool.{Bool, true}
 use lib.Dec.{eqb, ltb}
 use lib.ListN.{length}
 use native.Mathlib.Omega.{arith}
@@ -11,7 +11,7 @@ use borrow.Author.Tests.{ltb-true, eqb-true}
 use Rattle.model.specs.Bytes.{Bytes, Octets, view, zeros, equalBytes, _and_}
 use Rattle.model.specs.Names.{Part, part, parts, capitals, properName}
 use Rattle.model.specs.Map.{mapBlocks, room}
-use Rattle.model.specs.Directory.{Sort, file, directory, sort, volume, mapPlace, eof, used, Target, missing, there}
+use Rattle.model.specs.Directory.{file, sort, volume, mapPlace, eof, Target, missing, there}
 use Rattle.model.specs.Kinds.{kindFor}
 use Rattle.model.specs.File.{blocks, height, heightFor}
 use Rattle.model.specs.Calls.{target, home, spot, isNoVolume}
@@ -21,12 +21,12 @@ use Rattle.model.specs.Destroy.{destroy}
 use Rattle.model.specs.Rename.{headerNamed, renamed, isOther, nameTaken, renameNumber, rename}
 use Rattle.model.specs.SetEof.{setEof}
 use Rattle.model.proofs.ByteLaws.{equal-at}
-use Rattle.model.proofs.Cases.{cases, fresh, stamp, site7, log, days, d1, path, LOG, DAYS, D1, abc, makeFile, makeDirectory, writeTo}
+use Rattle.model.proofs.Cases.{cases, fresh, stamp, site7, days, d1, path, LOG, DAYS, D1, abc, makeFile, makeDirectory, writeTo}
 use Rattle.model.proofs.Laws.Sound.{and-left, and-right}
 use Rattle.model.proofs.Laws.Octet.{format-octets}
 use Rattle.model.proofs.Laws.Sequence.{Call, creating, writing, AllLent, calls-sound}
 use Rattle.model.proofs.Laws.Example.{worked, plain, nested, fresh-sound}
-use Rattle.theorems.proofs.Ways.{Spelled, Names, at-last, before, SameNames, none-left, one-more}
+use Rattle.theorems.proofs.Ways.{Spelled, Names, at-last, before, none-left, one-more}
 use Rattle.theorems.proofs.Formatted.{Formatted, format-gives, format-accepts}
 use Rattle.theorems.proofs.Created.{EmptyDirectory, Created, create-gives}
 use Rattle.theorems.proofs.Destroyed.{Destroyed, destroy-gives}

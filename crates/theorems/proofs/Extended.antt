@@ -1,26 +1,26 @@
 -- A full subdirectory gains the free block z: it stays where it is, and so does every other directory.
-use Prim.Native.Nat.{ℕ, suc, _+_, _-_, _*_, _≤_, _<_, _/_, _%_}
+use Prim.Native.Nat.{ℕ, suc, _+_, _*_, _≤_, _<_, _/_, _%_}
 use mathlib.Core.Path.{_≡_, refl, sym, ap, _∙_}
-use mathlib.Core.List.{List, [], _∷_, _++_}
+use mathlib.Core.List.{List, [], _∷_}
 use mathlib.Core.Option.{Option, none, some}
 use mathlib.Core.Bool.{true, false}
 use lib.ListN.{length, length-drop}
 use native.Mathlib.Omega.{arith}
 use Rattle.model.specs.Bytes.{Bytes, sum, count, is}
-use Rattle.model.specs.Map.{mapAt, free, room, taken}
+use Rattle.model.specs.Map.{mapAt, room}
 use Rattle.model.specs.Directory.{Sort, inactive, directory, improper, file, sort, isActive, live, at, volume, mapPlace, key, used, chain, slots, kids, active, vacant}
 use Rattle.model.specs.File.{blocks}
-use Rattle.model.specs.Create.{lastBlock, gained}
+use Rattle.model.specs.Create.{gained}
 use Rattle.model.proofs.ByteLaws.{at-or-off, putWord-out, putLong-out}
 use Rattle.model.proofs.BitLaws.{mapAt-in, taken-out, room-one}
 use Rattle.model.proofs.SumLaws.{sum-append, is-self}
 use Rattle.model.proofs.Laws.Frame.{at-place, Named, chain-length, slots-length, last-in}
 use Rattle.model.proofs.Laws.Sound.{mine, Sound}
 use Rattle.model.proofs.Laws.Keep.{directory-blocks, directory-kids, kids-same}
-use Rattle.model.proofs.Laws.Facts.{Seen, free-mine, own-mine, mine-off, seen-directory}
+use Rattle.model.proofs.Laws.Facts.{Seen, free-mine, mine-off, seen-directory}
 use Rattle.model.proofs.Laws.Most.{directory-most}
 use Rattle.model.proofs.Laws.Near.{Near, named-near}
-use Rattle.model.proofs.Laws.One.{Place, in-slot, in-link, Apart, Step, slot-mine, one-keeps, one-entry}
+use Rattle.model.proofs.Laws.One.{in-slot, in-link, Apart, Step, slot-mine, one-keeps, one-entry}
 use Rattle.model.proofs.Laws.Extend.{Extends, grown-sort, grown-kids, grown-free}
 use Rattle.theorems.proofs.Ways.{Carries, step-top}
 

@@ -1,22 +1,21 @@
 -- Format: a volume of the given name with no entry, on which just the blocks after the map are free.
 use Prim.Native.Nat.{ℕ, _+_, _-_, _*_, _≤_, _<_, _/_, _%_}
 use mathlib.Core.Path.{_≡_, refl, sym, ap, _∙_}
-use mathlib.Core.List.{List, [], _∷_}
-use mathlib.Core.Bool.{Bool, true, false, not}
+use mathlib.Core.Bool.{true, not}
 use lib.Dec.{eqb}
 use native.Mathlib.Omega.{arith}
 use native.Mathlib.Nat.{zero-add}
 use borrow.Author.Tests.{eq-eqb}
-use Rattle.model.specs.Bytes.{Bytes, sum, count, word, within, _and_}
-use Rattle.model.specs.Names.{Part, part, capital, properName, sameName}
+use Rattle.model.specs.Bytes.{Bytes, count, word, within, _and_}
+use Rattle.model.specs.Names.{part, capital, properName, sameName}
 use Rattle.model.specs.Map.{mapBlocks, mapAt, free, room, freshMap}
-use Rattle.model.specs.Directory.{Sort, inactive, directory, sort, live, at, volume, volumeBlock, mapPlace, slotSize, slotsInBlock, activeCount, field, kids, active}
+use Rattle.model.specs.Directory.{inactive, sort, live, at, volume, volumeBlock, mapPlace, slotSize, slotsInBlock, activeCount, field, kids, active}
 use Rattle.model.specs.Sound.{wholeBlocks}
-use Rattle.model.specs.Refusals.{row, first, settle}
+use Rattle.model.specs.Refusals.{first, settle}
 use Rattle.model.specs.Calls.{total, nameField, nothing}
 use Rattle.model.specs.Format.{headerBytes, volumeHeader, formatted, formatNumber, format}
 use Rattle.model.specs.declared.Stamp.{Stamp}
-use Rattle.model.proofs.ByteLaws.{put-off, paste-at, paste-before, paste-after, putWord-out, word-same}
+use Rattle.model.proofs.ByteLaws.{put-off, paste-at, paste-before, paste-after, putWord-out}
 use Rattle.model.proofs.BitLaws.{mapAt-in, fresh-free, fresh-yes, fresh-no, fresh-room}
 use Rattle.model.proofs.RefusalLaws.{first-passes}
 use Rattle.model.proofs.SumLaws.{sum-mem}

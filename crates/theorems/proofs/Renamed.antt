@@ -1,22 +1,19 @@
 -- Rename: the path with the new last name leads to the entry that the old one led to, and the old one to nothing. For the volume, every path leads
 -- where it led once its first name is the new one.
-use Prim.Native.Nat.{ℕ, suc, _+_, _-_, _*_, _≤_, _<_, _/_}
+use Prim.Native.Nat.{ℕ, _+_, _-_, _*_, _≤_, _<_, _/_}
 use mathlib.Core.Path.{_≡_, refl, sym, ap, _∙_}
 use mathlib.Core.List.{List, [], _∷_}
 use mathlib.Core.Option.{Option, none, some}
 use mathlib.Core.Bool.{Bool, true, false, false≢true}
-use lib.Dec.{eqb}
-use lib.ListN.{drop}
 use native.Mathlib.Omega.{arith}
-use native.Mathlib.Nat.{add-assoc}
 use borrow.Author.Tests.{eq-eqb, ne-eqb}
 use Rattle.model.specs.Bytes.{Bytes, sum, count, _and_}
-use Rattle.model.specs.Names.{Part, part, parts, capitals, nameSize, properName, sameName}
-use Rattle.model.specs.Directory.{Sort, inactive, directory, improper, file, sort, isActive, isDirectory, at, volume, volumeBlock, key, used, chain, slots, kids, seek, Target, noVolume, noDirectory, missing, there, last, along, lookup}
+use Rattle.model.specs.Names.{Part, part, parts, properName, sameName}
+use Rattle.model.specs.Directory.{Sort, inactive, directory, improper, file, sort, isActive, isDirectory, at, volume, key, used, chain, kids, seek, Target, noVolume, noDirectory, missing, there, last, along, lookup}
 use Rattle.model.specs.Refusals.{settle}
 use Rattle.model.specs.Calls.{total, target, home, spot, lastPart, isNoVolume, nameField, nothing}
 use Rattle.model.specs.Rename.{named, headerNamed, renamed, isOther, nameTaken, renameNumber, rename}
-use Rattle.model.proofs.ByteLaws.{at-or-off, put-off, paste-at, paste-out, equal-cong}
+use Rattle.model.proofs.ByteLaws.{at-or-off, put-off, paste-at, paste-out}
 use Rattle.model.proofs.SumLaws.{is-self}
 use Rattle.model.proofs.Laws.Frame.{at-inj, Named, next-in, chain-same}
 use Rattle.model.proofs.Laws.Sound.{and-right, Sound, sound-facts}

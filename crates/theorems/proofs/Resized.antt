@@ -1,7 +1,7 @@
 -- Write and set EOF: every path leads where it led, and the blocks of the file and the free ones stay as many together. Growth by set EOF takes just the
 -- new keys.
 use Prim.Native.Nat.{ℕ, _+_, _-_, _≤_, _<_}
-use mathlib.Core.Path.{_≡_, refl, sym, ap, _∙_}
+use mathlib.Core.Path.{_≡_, refl, sym, _∙_}
 use mathlib.Core.Bool.{Bool, true, false}
 use lib.Dec.{leb, ltb}
 use lib.ListN.{length}
@@ -9,14 +9,13 @@ use native.Mathlib.Omega.{arith}
 use borrow.Author.Tests.{ltb-true, ltb-false}
 use Rattle.model.specs.Bytes.{Bytes, Octets, one-if}
 use Rattle.model.specs.Map.{room}
-use Rattle.model.specs.Directory.{file, sort, mapPlace, mapBlock, key, used, eof}
+use Rattle.model.specs.Directory.{sort, mapPlace, mapBlock, key, used, eof}
 use Rattle.model.specs.File.{eofMost, span, firstBelow, heightFor, height, blocks}
 use Rattle.model.specs.Write.{noted, grown, grownKey, write}
 use Rattle.model.specs.SetEof.{sunk, sunkKey, pruned, shrunkKey, shrunk, eofSet, setEofNumber, setEof}
-use Rattle.model.specs.Calls.{total, home, spot, target, nothing}
+use Rattle.model.specs.Calls.{total, spot, target, nothing}
 use Rattle.model.specs.Refusals.{settle}
 use Rattle.model.specs.declared.Stamp.{Stamp}
-use Rattle.model.proofs.Laws.Sound.{Sound}
 use Rattle.model.proofs.Laws.Facts.{seen-file, seen-proper}
 use Rattle.model.proofs.Laws.Weigh.{Gauge, weigh, each, tardy, size, weigh-le, weigh-add}
 use Rattle.model.proofs.Laws.Move.{Move, move-fit, move-then}
@@ -29,7 +28,7 @@ use Rattle.model.proofs.Laws.Prune.{early, Pruned, prune, prune-move, prune-lat
 use Rattle.model.proofs.Laws.Lookup.{rows-off, entry-led, target-led}
 use Rattle.model.proofs.Laws.Paths.{target-same}
 use Rattle.model.proofs.Laws.Settled.{done-image}
-use Rattle.model.proofs.Laws.Opened.{Opened, opened, file-is}
+use Rattle.model.proofs.Laws.Opened.{Opened, file-is}
 use Rattle.model.proofs.Laws.Written.{write-opened, write-done}
 use Rattle.model.proofs.Laws.Reset.{set-eof-opened, set-eof-done}
 

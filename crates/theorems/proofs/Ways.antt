@@ -6,15 +6,12 @@ use mathlib.Core.Option.{Option, none, some}
 use mathlib.Core.Bool.{Bool, true, false, false≢true}
 use lib.ListN.{length}
 use native.Mathlib.Omega.{arith}
-use borrow.Author.Tests.{eqb-true, eqb-false}
-use Rattle.model.specs.Bytes.{Bytes, sum, count, is, _and_}
+use Rattle.model.specs.Bytes.{Bytes, count}
 use Rattle.model.specs.Names.{Part, capital, capitals, sameName}
 use Rattle.model.specs.Directory.{Sort, inactive, directory, improper, file, sort, isActive, isDirectory, at, volume, volumeBlock, kids, seek, Target, noVolume, noDirectory, missing, there, last, along, lookup}
 use Rattle.model.specs.Calls.{isNoVolume, isNoDirectory, isMissing, isThere, home, spot, lastPart}
 use Rattle.model.proofs.ByteLaws.{at-or-off, equal-cong}
-use Rattle.model.proofs.SumLaws.{is-self}
-use Rattle.model.proofs.BitLaws.{is-no}
-use Rattle.model.proofs.Laws.Sound.{and-both, Sound}
+use Rattle.model.proofs.Laws.Sound.{Sound}
 use Rattle.model.proofs.Laws.Facts.{Seen, kid-seen, kid-proper, one-parent, volume-seen, volume-directory, seen-directory}
 use Rattle.model.proofs.Laws.Keep.{head-name, kids-same}
 use Rattle.model.proofs.Laws.Near.{Near, named-near, same-near}
