@@ -142,7 +142,7 @@ module _ {n : ℕ} {v : Bytes} {d k : ℕ} {p : Bytes} {ps : List Part} {x : Par
         spare = lowest-free mapPlace g n (room-lowest mapPlace g n left);
         proper = proper;
       } in
-      let C = reaches-carried S (grown-carries E) (grown-top E) (λ _ _ _ _ _. tt) R (reaches-names R (names-self p ps)) in
+      let C = reaches-carried S (grown-carries E) (grown-top E) (λ _ _. tt) R (reaches-names R (names-self p ps)) in
       let M = made-is N W S′ (C .1) (C .2) in
       record { slot = z * 13; found = M .1; stands = M .0; space = omega (arith, made-room N w, grown-room E) }
 

@@ -152,7 +152,7 @@ module _ {n : ℕ} {v : Bytes} {a d z : ℕ} {p : Bytes} {x : Part} (N : Enters 
   pub made-reaches : {o q : Bytes} {os qs : List Part} {y : Part} → Reaches v o os d y → Spelled p x o y → SameNames o q os qs
       → (y′ : Part) × Reaches made q qs d y′ × Spelled p x q y′
   made-reaches R E M =
-      let C = reaches-carried S (step-carries made-step) (step-top made-step) (idle-good _ old) R (reaches-names R M) in
+      let C = reaches-carried S (step-carries made-step) (step-top made-step) (idle-good old) R (reaches-names R M) in
       (C .0, C .1, spelled-trans E (C .2))
 
   pub made-found : {q : Bytes} {qs : List Part} {y : Part} → Sound n made → isActive (sort made a) ≡ true → Reaches made q qs d y → Spelled p x q y

@@ -101,9 +101,10 @@ module _ {n : ℕ} {v : Bytes} {a d y z : ℕ} (E : Extends n v a d y z) where
   grown-carries =
       record {
         stays = λ e t s h _ c f _.
-            let name = at-or-off {P = (sort grown t ≡ directory) × Near v grown (at t)} t a (λ i. rw i (grown-sort E, named-near grown-name))
-            (λ k. let O = one-entry grown-step e t s c k in (O .0 ∙ f, named-near (O .1))) in
-            (holds e t s c, name .0, name .1);
+            let same = at-or-off {P = (sort grown t ≡ sort v t) × Near v grown (at t)} t a
+            (λ i. rw i (grown-sort E ∙ sym da, named-near grown-name))
+            (λ k. let O = one-entry grown-step e t s c k in (O .0, named-near (O .1))) in
+            (holds e t s c, same .0, same .1);
       }
     where
       holds : (e t : ℕ) → Seen v e → 1 ≤ count t (kids v e) → 1 ≤ count t (kids grown e)
