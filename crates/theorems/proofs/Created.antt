@@ -24,8 +24,8 @@ use Rattle.model.proofs.Laws.Lookup.{rows-off, not-false, path-last, Home, open
 use Rattle.model.proofs.Laws.Extend.{Extends, grown-sound, grown-octets, grown-place}
 use Rattle.model.proofs.Laws.Created.{Wants, want-file, want-directory, wants, create-sound}
 use Rattle.model.proofs.Laws.Settled.{done-image}
-use Rattle.theorems.proofs.Ways.{spelled-self, Spelled, SameNames, names-self, under, at-seen, Reaches, path-reaches, is-missing, reaches-at, reaches-names, reaches-carried, step-kids}
-use Rattle.theorems.proofs.Entered.{Enters, made-step, made-room, made-sort, made-key, made-used, made-type, made-eof, made-none, made-reaches, made-found}
+use Rattle.theorems.proofs.Ways.{spelled-self, Spelled, SameNames, names-self, under, at-seen, Reaches, path-reaches, is-missing, reaches-at, reaches-names, reaches-carried, found-stays, step-kids}
+use Rattle.theorems.proofs.Entered.{Enters, made-step, made-room, made-sort, made-key, made-used, made-type, made-eof, made-none, made-reaches, made-found, made-elsewhere}
 use Rattle.theorems.proofs.Extended.{vacant-some, full-low, grown-top, grown-carries, grown-room}
 
 -- A directory with no active entry.
@@ -46,6 +46,7 @@ pub record Stands (u : Bytes) (a : ℕ) (w : Wanted) : Type 0 where
 record Made (n : ℕ) (v : Bytes) (d : ℕ) (p : Bytes) (ps : List Part) (w : Wanted) (c : ℕ) (u : Bytes) : Type 0 where
   slot : ℕ
   found : (o : Bytes) (os : List Part) → SameNames p o ps os → lookup u o os ≡ there d slot
+  elsewhere : (o : Bytes) (os : List Part) (e s : ℕ) → lookup v o os ≡ there e s → lookup u o os ≡ there e s
   stands : Stands u slot w
   space : room mapPlace u n + c ≡ room mapPlace v n
 
@@ -109,7 +110,7 @@ module _ {n : ℕ} {v : Bytes} {d k : ℕ} {p : Bytes} {ps : List Part} {x : Par
         proper = proper;
       } in
       let M = made-is N W S′ R (spelled-self p x) in
-      record { slot = s; found = M .1; stands = M .0; space = made-room N w }
+      record { slot = s; found = M .1; elsewhere = made-elsewhere N w S′; stands = M .0; space = made-room N w }
 
   -- a full subdirectory
   full-made : vacant v (kids v d) ≡ none → 2 ≤ room mapPlace v n → (d ≡ volume → ⊥) → Sound n (createdAt none mapPlace n v d p x w)
@@ -144,7 +145,15 @@ module _ {n : ℕ} {v : Bytes} {d k : ℕ} {p : Bytes} {ps : List Part} {x : Par
       } in
       let C = reaches-carried S (grown-carries E) (grown-top E) (λ _ _. tt) R (reaches-names R (names-self p ps)) in
       let M = made-is N W S′ (C .1) (C .2) in
-      record { slot = z * 13; found = M .1; stands = M .0; space = omega (arith, made-room N w, grown-room E) }
+      record {
+        slot = z * 13;
+        found = M .1;
+        elsewhere = λ o os e s f.
+            made-elsewhere N w S′ o os e s
+            (found-stays S (grown-sound E) (grown-carries E) (grown-top E) o os e s (λ _ _ _ _ _. tt) (λ _. tt) f);
+        stands = M .0;
+        space = omega (arith, made-room N w, grown-room E);
+      }
 
   create-made : (full v d ≡ true → d ≡ volume → ⊥) → createNeed v d ≤ room mapPlace v n → Sound n (created mapPlace n v d p x w)
       → Made n v d p ps w (createNeed v d) (created mapPlace n v d p x w)
@@ -164,6 +173,8 @@ pub record Created (n : ℕ) (v p : Bytes) (k : ℕ) (w : Wanted) (u : Bytes) : 
   pub found : target u p k ≡ there (home (target v p k)) slot
   -- by every other spelling too
   pub spelled : (o : Bytes) (i : ℕ) → SameNames p o (parts p k) (parts o i) → target u o i ≡ there (home (target v p k)) slot
+  -- every path to another entry leads there still
+  pub elsewhere : (o : Bytes) (i e s : ℕ) → target v o i ≡ there e s → target u o i ≡ there e s
   pub stands : Stands u slot w
   pub space : room mapPlace u n + createNeed v (home (target v p k)) ≡ room mapPlace v n
 
@@ -188,6 +199,7 @@ module _ (len : ℕ) (v p : Bytes) (k : ℕ) (w : Wanted) (octets : Octets v) wh
         slot = M .slot;
         found = M .found p (parts p k) (names-self p (parts p k));
         spelled = λ o i N. M .found o (parts o i) N;
+        elsewhere = λ o i e s f. M .elsewhere o (parts o i) e s f;
         stands = M .stands;
         space = M .space;
       }

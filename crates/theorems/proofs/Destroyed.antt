@@ -10,22 +10,23 @@ use borrow.Author.Tests.{ltb-true, ltb-false}
 use Rattle.model.specs.Bytes.{Bytes, Octets, count}
 use Rattle.model.specs.Names.{Part, parts, sameName}
 use Rattle.model.specs.Map.{mapAt, free, room}
-use Rattle.model.specs.Directory.{inactive, sortOf, sort, isActive, at, volume, mapPlace, key, kids, missing, there, lookup}
+use Rattle.model.specs.Directory.{inactive, sortOf, sort, isActive, live, at, volume, mapPlace, key, kids, missing, there, lookup}
 use Rattle.model.specs.File.{blocks}
 use Rattle.model.specs.Refusals.{settle}
 use Rattle.model.specs.Calls.{total, target, home, spot, lastPart, givenAll, nothing}
 use Rattle.model.specs.Destroy.{destroyed, destroyNumber, destroy}
 use Rattle.model.proofs.ByteLaws.{put-at, put-off, putWord-out}
 use Rattle.model.proofs.BitLaws.{free-most, mapAt-in, MapSame, same-free}
+use Rattle.model.proofs.SumLaws.{sum-mem}
 use Rattle.model.proofs.Laws.Total.{total-one}
 use Rattle.model.proofs.Laws.Sound.{deep, top, sound-facts}
 use Rattle.model.proofs.Laws.Keep.{sort-at}
 use Rattle.model.proofs.Laws.Facts.{own-mine, mine-in, mine-once, mine-off}
 use Rattle.model.proofs.Laws.One.{in-slot, in-count, Apart, Step, slot-map, head-mine}
 use Rattle.model.proofs.Laws.Lookup.{rows-off, not-false, entry-led, target-led, seek-some}
-use Rattle.model.proofs.Laws.Destroy.{all-out, all-free, Destroys, gone-sound, done}
+use Rattle.model.proofs.Laws.Destroy.{all-out, all-free, live-active, Destroys, gone-sound, done}
 use Rattle.model.proofs.Laws.Settled.{done-image}
-use Rattle.theorems.proofs.Ways.{SameNames, names-self, under, Reaches, path-reaches, is-there, reaches-at, reaches-names, reaches-carried, step-carries, step-top, above-good, last-gone}
+use Rattle.theorems.proofs.Ways.{SameNames, names-self, under, Reaches, path-reaches, is-there, reaches-at, reaches-names, reaches-carried, step-carries, step-top, above-good, found-stays, last-gone}
 use Rattle.theorems.proofs.Counting.{room-list}
 
 module _ {n : ℕ} {v : Bytes} {a d : ℕ} (D : Destroys n v a d) where
@@ -85,12 +86,22 @@ module _ {n : ℕ} {v : Bytes} {a d : ℕ} (D : Destroys n v a d) where
       let C = reaches-carried S (step-carries gone-step) (step-top gone-step) (above-good S (under (A .0) (A .1) (P .inside))) R (reaches-names R N) in
       last-gone gone-step (gone-sound D) (C .1) alive m (C .2) (λ f _. false≢true (rw gone-sort at f))
 
+  -- every other entry
+  gone-elsewhere : (o : Bytes) (os : List Part) (e s : ℕ) → (s ≡ a → ⊥) → lookup v o os ≡ there e s → lookup gone o os ≡ there e s
+  gone-elsewhere o os e s k =
+      found-stays S (gone-sound D) (step-carries gone-step) (step-top gone-step) o os e s
+      (λ t O u c f i.
+      omega (arith, D .empty, live-active (sort v u) f, sum-mem (λ x. live (sort v x)) u (kids v a) (rw i at c)))
+      (λ _. k)
+
 -- What an accepted destroy of the path p of k bytes does to the volume v of n blocks.
 pub record Destroyed (n : ℕ) (v p : Bytes) (k : ℕ) (w : Bytes) : Type 0 where
   pub was : target v p k ≡ there (home (target v p k)) (spot (target v p k))
   pub gone : target w p k ≡ missing (home (target v p k))
   -- by every other spelling too
   pub nowhere : (q : Bytes) (i : ℕ) → SameNames p q (parts p k) (parts q i) → target w q i ≡ missing (home (target v p k))
+  -- every path to another entry leads there still
+  pub elsewhere : (o : Bytes) (i d s : ℕ) → target v o i ≡ there d s → (s ≡ spot (target v p k) → ⊥) → target w o i ≡ there d s
   pub idle : sort w (spot (target v p k)) ≡ inactive
   pub freed : room mapPlace w n ≡ room mapPlace v n + length (blocks v (spot (target v p k)))
 
@@ -111,6 +122,7 @@ module _ (len : ℕ) (v p : Bytes) (k : ℕ) (octets : Octets v) where
         was = is-there (target v p k) (r 3) (r 4) (r 5);
         gone = gone-missing D (parts p k) (parts p k) (E .alive) m R (names-self p (parts p k));
         nowhere = λ q i N. gone-missing D (parts p k) (parts q i) (E .alive) m R N;
+        elsewhere = λ o i d s f k. gone-elsewhere D o (parts o i) d s k f;
         idle = gone-sort D;
         freed = gone-room D;
       }

@@ -2,7 +2,7 @@
 use Prim.Native.Nat.{ℕ, _+_, _-_, _*_, _≤_, _<_, _/_}
 use mathlib.Core.Path.{_≡_, refl, sym, ap, _∙_}
 use mathlib.Core.List.{List}
-use mathlib.Core.Bool.{Bool, true, false}
+use mathlib.Core.Bool.{Bool, true, false, false≢true}
 use lib.Dec.{eqb}
 use native.Mathlib.Omega.{arith}
 use native.Mathlib.Nat.{add-assoc}
@@ -22,7 +22,7 @@ use Rattle.model.proofs.Laws.One.{Place, in-slot, in-count, Apart, Step, slot-m
 use Rattle.model.proofs.Laws.Spelling.{Bears, bears-same, stored}
 use Rattle.model.proofs.Laws.Lookup.{name-size}
 use Rattle.model.proofs.Laws.Fresh.{newSize, entry-name, entry-type, entry-key, entry-used, entry-eof, header-count}
-use Rattle.theorems.proofs.Ways.{Spelled, spelled-trans, spelled-bears, SameNames, Reaches, reaches-names, reaches-carried, step-carries, step-top, idle-good, last-found}
+use Rattle.theorems.proofs.Ways.{Spelled, spelled-trans, spelled-bears, SameNames, Reaches, reaches-names, reaches-carried, step-carries, step-top, idle-good, found-stays, last-found}
 
 -- a is inactive and z is free; the name is proper
 pub record Enters (n : ℕ) (v : Bytes) (a d z : ℕ) (p : Bytes) (x : Part) : Type 0 where
@@ -154,6 +154,12 @@ module _ {n : ℕ} {v : Bytes} {a d z : ℕ} {p : Bytes} {x : Part} (N : Enters 
   made-reaches R E M =
       let C = reaches-carried S (step-carries made-step) (step-top made-step) (idle-good old) R (reaches-names R M) in
       (C .0, C .1, spelled-trans E (C .2))
+
+  -- every path that led to an entry leads there still
+  pub made-elsewhere : Sound n made → (o : Bytes) (os : List Part) (e s : ℕ) → lookup v o os ≡ there e s → lookup made o os ≡ there e s
+  made-elsewhere S′ o os e s =
+      found-stays S S′ (step-carries made-step) (step-top made-step) o os e s (λ t O u c f. idle-good old t O)
+      (λ f i. false≢true (rw (i, old) at f))
 
   pub made-found : {q : Bytes} {qs : List Part} {y : Part} → Sound n made → isActive (sort made a) ≡ true → Reaches made q qs d y → Spelled p x q y
       → lookup made q qs ≡ there d a

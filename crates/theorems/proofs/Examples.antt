@@ -207,7 +207,7 @@ d2-folder = create-gives 8192 worked (view D2) 14 nested worked-octets (ap (λ x
 pub d2-bare : EmptyDirectory (create 8192 worked (view D2) 14 nested .image) (d2-folder .slot)
 d2-bare = d2-folder .stands .folder refl
 
--- 3. LOG is destroyed: its path leads to nothing in the volume's directory, and 7 blocks are free.
+-- 3. LOG is destroyed: its path leads to nothing in the volume's directory, 7 blocks are free, and the path of D1 leads where it led.
 abbrev pub without-log : Bytes
 without-log = destroy 8192 worked (view LOG) 10 .image
 
@@ -236,6 +236,10 @@ log-space =
     let one : length (blocks worked (spot (target worked (view LOG) 10))) ≡ 1 =
     ap (λ (s : ℕ). length (blocks worked s)) log-spot ∙ ap (λ x. x .log-length) computed in
     omega (arith, log-destroyed .freed, ap (λ x. x .unused) computed)
+
+pub d1-still : target without-log (view D1) 14 ≡ there 28 105
+unfolding observed
+d1-still = log-destroyed .elsewhere (view D1) 14 28 105 (ap (λ x. x .d1-target) computed) (λ e. omega (arith, log-spot))
 
 -- 4. LOG is renamed to NOTES: the path /site7/notes leads to it, and the old one to nothing. The volume is renamed to HOME: /HOME/DAYS/D1 leads to D1.
 abbrev pub with-notes : Bytes

@@ -24,9 +24,10 @@ use Rattle.model.proofs.Laws.One.{Place, Step, slot-head}
 use Rattle.model.proofs.Laws.Spelling.{Bears, same-bears, bears-same, stored}
 use Rattle.model.proofs.Laws.Relabel.{marks-step, relabel-sound}
 use Rattle.model.proofs.Laws.Lookup.{rows-off, not-false, name-size, entry-led, target-led, seek-some}
+use Rattle.model.proofs.Laws.Twice.{passed}
 use Rattle.model.proofs.Laws.Settled.{done-image}
 use Rattle.model.proofs.Laws.Rename.{now-relabels}
-use Rattle.theorems.proofs.Ways.{Spelled, spelled-sym, spelled-trans, spelled-bears, bears-spelled, same-spelled, Names, SameNames, names-self, none-left, one-more, under, Reaches, path-reaches, is-there, reaches-at, reaches-names, reaches-carried, step-carries, step-top, above-good, last-found, last-gone}
+use Rattle.theorems.proofs.Ways.{Spelled, spelled-sym, spelled-trans, spelled-bears, bears-spelled, same-spelled, Names, SameNames, names-self, none-left, one-more, under, Reaches, path-reaches, is-there, reaches-at, reaches-names, reaches-carried, step-carries, step-top, above-good, found-stays, last-found, last-gone}
 
 -- An entry.
 module _ {n : ℕ} {v : Bytes} {a d : ℕ} (q : Bytes) (j : ℕ) (S : Sound n v) (P : Place v a d) (alive : isActive (sort v a) ≡ true)
@@ -82,6 +83,12 @@ module _ {n : ℕ} {v : Bytes} {a d : ℕ} (q : Bytes) (j : ℕ) (S : Sound n v)
         last-gone now-step now-sound (C .1) alive m (C .2)
         (λ _ h. off (spelled-trans (C .2) (bears-spelled (same-bears now (at a) o (C .0) h) now-bears)))
 
+  now-elsewhere : (o : Bytes) (os : List Part) (e s : ℕ) → (s ≡ a → ⊥) → count a (passed v o os) ≡ 0 → lookup v o os ≡ there e s
+      → lookup now o os ≡ there e s
+  now-elsewhere o os e s k z =
+      found-stays S now-sound (step-carries now-step) (step-top now-step) o os e s
+      (λ t O u c f i. omega (arith, z, rw i at (O .among))) (λ _. k)
+
 -- What an accepted rename of the path p of k bytes to the name q of j bytes does, where it leads to the entry a of the directory d.
 pub record Renamed (v p : Bytes) (k : ℕ) (q : Bytes) (j : ℕ) (w : Bytes) (d a : ℕ) : Type 0 where
   pub was : target v p k ≡ there d a
@@ -93,6 +100,8 @@ pub record Renamed (v p : Bytes) (k : ℕ) (q : Bytes) (j : ℕ) (w : Bytes) (d 
   -- and in every other spelling
   pub nowhere : (Spelled p (lastPart (parts p k)) q (part 0 j) → ⊥)
       → (o : Bytes) (i : ℕ) → SameNames p o (parts p k) (parts o i) → target w o i ≡ missing d
+  -- every path to another entry leads there still, unless it passes the entry a, a directory
+  pub elsewhere : (o : Bytes) (i e s : ℕ) → target v o i ≡ there e s → (s ≡ a → ⊥) → count a (passed v o (parts o i)) ≡ 0 → target w o i ≡ there e s
 
 -- The first name of a path is the name z of q, the others are those of another path.
 pub data FirstNamed (p o q : Bytes) (z : Part) : List Part → List Part → Type 0 where
@@ -228,6 +237,7 @@ module _ (len : ℕ) (v p : Bytes) (k : ℕ) (q : Bytes) (j : ℕ) where
         found = λ o i N. now-found q j S (E .spot) (E .alive) proper free R o (parts o i) N;
         gone = λ off. gone off p (parts p k) (names-self p (parts p k));
         nowhere = λ off o i N. gone off o (parts o i) N;
+        elsewhere = λ o i e s f k m. now-elsewhere q j S (E .spot) (E .alive) proper free o (parts o i) e s k m f;
       }
 
   pub rename-gives : rename len v p k q j .number ≡ 0 → (spot (target v p k) ≡ volume → ⊥)

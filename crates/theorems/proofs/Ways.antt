@@ -218,6 +218,12 @@ pub reaches-lookup : {n : ℕ} {v p : Bytes} {ps : List Part} {d : ℕ} {y : Par
 unfolding lookup
 reaches-lookup S (reached m L) = rw (m, lookup) (leads-along S (volume-seen S) (volume-directory S) L)
 
+pub reaches-found : {n : ℕ} {v p : Bytes} {ps : List Part} {d : ℕ} {y : Part} → Sound n v → Reaches v p ps d y → (s : ℕ) → 1 ≤ count s (kids v d)
+    → isActive (sort v s) ≡ true → sameName v (at s) p y ≡ true → lookup v p ps ≡ there d s
+reaches-found {p = p} {d = d} {y} S R s c f m =
+    let A = reaches-at S R in
+    reaches-lookup S R ∙ rw (seek-one S p y d (at-seen S (A .0)) (A .1) s c f m) (unfold last in refl)
+
 pub reaches-names : {v p q : Bytes} {ps qs : List Part} {d : ℕ} {y : Part} → Reaches v p ps d y → SameNames p q ps qs
     → Names p q (λ x y. Spelled p x q y) ps qs
 reaches-names (reached m L) N = same-names N
@@ -352,8 +358,21 @@ single-same : {v w : Bytes} (p : Bytes) (x : Part) → Near v w (at volume) → 
 unfolding lookup along
 single-same p x top = λ i. elim (same-near p x top i) [ true ↦ there volume volume | false ↦ noVolume ]
 
+-- all directories of the way, each with an active entry
+abbrev pub GoodAll : Bytes → (ℕ → Type 0) → List ℕ → ℕ → ℕ → Type 0
+GoodAll v good ds d m = (t : ℕ) → OnWay v ds d m t → (u : ℕ) → 1 ≤ count u (kids v t) → isActive (sort v u) ≡ true → good t
+
+good-all : {v : Bytes} {good : ℕ → Type 0} {ds : List ℕ} {d m : ℕ} (s : ℕ) → GoodAll v good ds d m → 1 ≤ count s (kids v d) → isActive (sort v s) ≡ true
+    → GoodWay v good ds d m
+good-all {v} {good} {d = d} s g c f t O = go (O .leading)
+  where
+    go : Leading v d t → good t
+    go (is-end e) = g t O s (rw e c) f
+    go (has-entry u k h) = g t O u k h
+
 pub found-stays : {n : ℕ} {v w : Bytes} {good : ℕ → Type 0} → Sound n v → Sound n w → Carries v w good → Near v w (at volume) → (p : Bytes) (ps : List Part)
-    (d s : ℕ) → GoodWay v good (passed v p ps) d (suc (length ps - 2)) → good s → lookup v p ps ≡ there d s → lookup w p ps ≡ there d s
+    (d s : ℕ) → GoodAll v good (passed v p ps) d (suc (length ps - 2)) → (isActive (sort v s) ≡ true → good s) → lookup v p ps ≡ there d s
+    → lookup w p ps ≡ there d s
 unfolding isNoVolume isNoDirectory home
 found-stays S S′ C top p [] d s g h f = let z : _≡_ {A = ℕ} 0 1 = unfold lookup in cc in absurd (omega arith)
 found-stays {v = v} {w} S S′ C top p (x ∷ []) d s g h f =
@@ -365,8 +384,9 @@ found-stays {v = v} {w} S S′ C top p (x ∷ y ∷ r) d s g h f =
     let R : Reaches v p ps d (lastPart ps) = rw f at (reaches-two v p x y r a b) in
     let A = reaches-at S R in
     let E = seek-some v p (lastPart ps) (kids v d) s (last-some d s (seek v p (lastPart ps) (kids v d)) (sym (reaches-lookup S R) ∙ f)) in
+    let good = good-all s g (E .0) (E .1) in
     let good-d =
-    g d
+    good d
     (record {
       steps = length ps - 2;
       depth = A .0;
@@ -375,11 +395,13 @@ found-stays {v = v} {w} S S′ C top p (x ∷ y ∷ r) d s g h f =
       leading = is-end refl;
       among = rw f at (home-passed v p ps a b);
     }) in
-    let K = C .stays d s (at-seen S (A .0)) (A .1) good-d (E .0) (E .1) h in
-    let N = reaches-carried S C top g R (reaches-names R (names-self p ps)) in
-    let A′ = reaches-at S′ (N .1) in
-    reaches-lookup S′ (N .1)
-    ∙ rw (seek-one S′ p (N .0) d (at-seen S′ (A′ .0)) (A′ .1) s (K .0) (rw (K .1) (E .1)) (near-same (K .2) (N .2) (E .2))) (unfold last in refl)
+    let K = C .stays d s (at-seen S (A .0)) (A .1) good-d (E .0) (E .1) (h (E .1)) in
+    let N = reaches-carried S C top good R (reaches-names R (names-self p ps)) in
+    still N (K .0) (rw (K .1) (E .1)) (λ z F. near-same (K .2) F (E .2))
+  where
+    still : {u : Part} → ((z : Part) × Reaches w p (x ∷ y ∷ r) d z × Spelled p u p z) → 1 ≤ count s (kids w d) → isActive (sort w s) ≡ true
+        → ((z : Part) → Spelled p u p z → sameName w (at s) p z ≡ true) → lookup w p (x ∷ y ∷ r) ≡ there d s
+    still (z, R, F) c k m = reaches-found S′ R s c k (m z F)
 
 -- A change of one entry keeps all other directories, and the volume's name.
 pub step-carries : {n : ℕ} {v w : Bytes} {a d : ℕ} → Step n v w a d → Carries v w (λ t. t ≡ a → ⊥)
@@ -410,10 +432,7 @@ module _ {n : ℕ} {v w : Bytes} {a d : ℕ} (T : Step n v w a d) (S′ : Sound 
   open Step T using (sound as S, spot as P)
 
   pub last-found : isActive (sort w a) ≡ true → sameName w (at a) q z ≡ true → lookup w q qs ≡ there d a
-  last-found f m =
-      let A = reaches-at S′ R in
-      reaches-lookup S′ R
-      ∙ rw (seek-one S′ q z d (at-seen S′ (A .0)) (A .1) a (rw (step-kids T) (P .inside)) f m) (unfold last in refl)
+  last-found f m = reaches-found S′ R a (rw (step-kids T) (P .inside)) f m
 
   pub last-gone : {p : Bytes} {y : Part} → isActive (sort v a) ≡ true → sameName v (at a) p y ≡ true → Spelled p y q z
       → (isActive (sort w a) ≡ true → sameName w (at a) q z ≡ true → ⊥) → lookup w q qs ≡ missing d
