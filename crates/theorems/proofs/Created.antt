@@ -24,7 +24,9 @@ use Rattle.model.proofs.Laws.Lookup.{rows-off, not-false, path-last, Home, open
 use Rattle.model.proofs.Laws.Extend.{Extends, grown-sound, grown-octets, grown-place}
 use Rattle.model.proofs.Laws.Created.{Wants, want-file, want-directory, wants, create-sound}
 use Rattle.model.proofs.Laws.Settled.{done-image}
-use Rattle.theorems.proofs.Ways.{spelled-self, Spelled, SameNames, names-self, under, at-seen, Reaches, path-reaches, is-missing, reaches-at, reaches-names, reaches-carried, found-stays, step-kids}
+use Rattle.theorems.proofs.Spelled.{spelled-self, Spelled, SameNames, names-self}
+use Rattle.theorems.proofs.Ways.{under, at-seen, Reaches, path-reaches, is-missing, reaches-at, reaches-names}
+use Rattle.theorems.proofs.Carried.{reaches-carried, found-stays, step-kids}
 use Rattle.theorems.proofs.Entered.{Enters, made-step, made-room, made-sort, made-key, made-used, made-type, made-eof, made-none, made-reaches, made-found, made-elsewhere}
 use Rattle.theorems.proofs.Extended.{vacant-some, full-low, grown-top, grown-carries, grown-room}
 

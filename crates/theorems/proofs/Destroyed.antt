@@ -26,7 +26,9 @@ use Rattle.model.proofs.Laws.One.{in-slot, in-count, Apart, Step, slot-map, hea
 use Rattle.model.proofs.Laws.Lookup.{rows-off, not-false, entry-led, target-led, seek-some}
 use Rattle.model.proofs.Laws.Destroy.{all-out, all-free, live-active, Destroys, gone-sound, done}
 use Rattle.model.proofs.Laws.Settled.{done-image}
-use Rattle.theorems.proofs.Ways.{SameNames, names-self, under, Reaches, path-reaches, is-there, reaches-at, reaches-names, reaches-carried, step-carries, step-top, above-good, found-stays, last-gone}
+use Rattle.theorems.proofs.Spelled.{SameNames, names-self}
+use Rattle.theorems.proofs.Ways.{under, Reaches, path-reaches, is-there, reaches-at, reaches-names}
+use Rattle.theorems.proofs.Carried.{reaches-carried, step-carries, step-top, above-good, found-stays, last-gone}
 use Rattle.theorems.proofs.Counting.{room-list}
 
 module _ {n : ℕ} {v : Bytes} {a d : ℕ} (D : Destroys n v a d) where

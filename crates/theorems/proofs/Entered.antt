@@ -22,7 +22,9 @@ use Rattle.model.proofs.Laws.One.{Place, in-slot, in-count, Apart, Step, slot-m
 use Rattle.model.proofs.Laws.Spelling.{Bears, bears-same, stored}
 use Rattle.model.proofs.Laws.Lookup.{name-size}
 use Rattle.model.proofs.Laws.Fresh.{newSize, entry-name, entry-type, entry-key, entry-used, entry-eof, header-count}
-use Rattle.theorems.proofs.Ways.{Spelled, spelled-trans, spelled-bears, SameNames, Reaches, reaches-names, reaches-carried, step-carries, step-top, idle-good, found-stays, last-found}
+use Rattle.theorems.proofs.Spelled.{Spelled, spelled-trans, spelled-bears, SameNames}
+use Rattle.theorems.proofs.Ways.{Reaches, reaches-names}
+use Rattle.theorems.proofs.Carried.{reaches-carried, step-carries, step-top, idle-good, found-stays, last-found}
 
 -- a is inactive and z is free; the name is proper
 pub record Enters (n : ℕ) (v : Bytes) (a d z : ℕ) (p : Bytes) (x : Part) : Type 0 where

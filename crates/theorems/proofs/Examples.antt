@@ -26,7 +26,7 @@ use Rattle.model.proofs.Laws.Sound.{and-left, and-right}
 use Rattle.model.proofs.Laws.Octet.{format-octets}
 use Rattle.model.proofs.Laws.Sequence.{Call, creating, writing, AllLent, calls-sound}
 use Rattle.model.proofs.Laws.Example.{worked, plain, nested, fresh-sound}
-use Rattle.theorems.proofs.Ways.{Spelled, Names, at-last, before, none-left, one-more}
+use Rattle.theorems.proofs.Spelled.{Spelled, Names, at-last, before, none-left, one-more}
 use Rattle.theorems.proofs.Formatted.{Formatted, format-gives, format-accepts}
 use Rattle.theorems.proofs.Created.{EmptyDirectory, Created, create-gives}
 use Rattle.theorems.proofs.Destroyed.{Destroyed, destroy-gives}

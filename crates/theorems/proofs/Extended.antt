@@ -22,7 +22,7 @@ use Rattle.model.proofs.Laws.Most.{directory-most}
 use Rattle.model.proofs.Laws.Near.{Near, named-near}
 use Rattle.model.proofs.Laws.One.{in-slot, in-link, Apart, Step, slot-mine, one-keeps, one-entry}
 use Rattle.model.proofs.Laws.Extend.{Extends, grown-sort, grown-kids, grown-free}
-use Rattle.theorems.proofs.Ways.{Carries, step-top}
+use Rattle.theorems.proofs.Carried.{Carries, step-top}
 
 -- The first inactive slot.
 pub vacant-some : (v : Bytes) (ss : List ℕ) (s : ℕ) → vacant v ss ≡ some s → (1 ≤ count s ss) × (sort v s ≡ inactive)

@@ -1,5 +1,7 @@
 -- What a path leads to after a call, what stands there, and how many blocks are free.
+pub mod Spelled
 pub mod Ways
+pub mod Carried
 pub mod Formatted
 pub mod Counting
 pub mod Destroyed

@@ -27,7 +27,9 @@ use Rattle.model.proofs.Laws.Lookup.{rows-off, not-false, name-size, entry-led,
 use Rattle.model.proofs.Laws.Twice.{passed}
 use Rattle.model.proofs.Laws.Settled.{done-image}
 use Rattle.model.proofs.Laws.Rename.{now-relabels}
-use Rattle.theorems.proofs.Ways.{Spelled, spelled-sym, spelled-trans, spelled-bears, bears-spelled, same-spelled, Names, SameNames, names-self, none-left, one-more, under, Reaches, path-reaches, is-there, reaches-at, reaches-names, reaches-carried, step-carries, step-top, above-good, found-stays, last-found, last-gone}
+use Rattle.theorems.proofs.Spelled.{Spelled, spelled-sym, spelled-trans, spelled-bears, bears-spelled, same-spelled, Names, SameNames, names-self, none-left, one-more}
+use Rattle.theorems.proofs.Ways.{under, Reaches, path-reaches, is-there, reaches-at, reaches-names}
+use Rattle.theorems.proofs.Carried.{reaches-carried, step-carries, step-top, above-good, found-stays, last-found, last-gone}
 
 -- An entry.
 module _ {n : ℕ} {v : Bytes} {a d : ℕ} (q : Bytes) (j : ℕ) (S : Sound n v) (P : Place v a d) (alive : isActive (sort v a) ≡ true)
