@@ -2,6 +2,7 @@
 pub mod Spelled
 pub mod Ways
 pub mod Carried
+pub mod Below
 pub mod Formatted
 pub mod Counting
 pub mod Destroyed

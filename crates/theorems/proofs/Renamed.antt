@@ -29,6 +29,7 @@ use Rattle.model.proofs.Laws.Settled.{done-image}
 use Rattle.model.proofs.Laws.Rename.{now-relabels}
 use Rattle.theorems.proofs.Spelled.{Spelled, spelled-sym, spelled-trans, spelled-bears, bears-spelled, same-spelled, Names, SameNames, names-self, none-left, one-more}
 use Rattle.theorems.proofs.Ways.{under, Reaches, path-reaches, is-there, reaches-at, reaches-names}
+use Rattle.theorems.proofs.Below.{Still, along-same}
 use Rattle.theorems.proofs.Carried.{reaches-carried, step-carries, step-top, above-good, found-stays, last-found, last-gone}
 
 -- An entry.
@@ -149,45 +150,12 @@ module _ {n : ℕ} {v : Bytes} (q : Bytes) (j : ℕ) (S : Sound n v) (proper : p
       ∙ rw (key-same v after d F, used-same v after d F, after-chain (key v d) (used v d)) (sym (directory-kids v d e))
 
   -- other names lead on as before
-  module _ (o o′ : Bytes) where
-    seek-same : {x y : Part} → Spelled o x o′ y → (ss : List ℕ) → ((s : ℕ) → 1 ≤ count s ss → s ≡ volume → ⊥) → seek after o′ y ss ≡ seek v o x ss
-    unfolding seek sum
-    seek-same E [] f = refl
-    seek-same {x} {y} E (s ∷ ss) f =
-        let A = after-entry s (f s (omega (arith, is-self s))) in
-        let alive : isActive (sort after s) ≡ isActive (sort v s) = ap isActive (A .0) in
-        let name : sameName after (at s) o′ y ≡ sameName v (at s) o x = same-near o′ y (A .1) ∙ same-spelled v (at s) E in
-        let r = seek-same E ss (λ t c. f t (omega arith)) in
-        λ i. elim (alive i and name i) [ true ↦ some s | false ↦ r i ]
-
-    found-same : {x y : Part} → Spelled o x o′ y → (d : ℕ) → Seen v d → sort v d ≡ directory → seek after o′ y (kids after d) ≡ seek v o x (kids v d)
-    found-same E d h e = rw (after-kids d e) (seek-same E (kids v d) (λ s c. kid-proper S d s h c))
-
-    along-same : {ps os : List Part} → SameNames o o′ ps os → (d : ℕ) → Seen v d → sort v d ≡ directory → along after o′ d os ≡ along v o d ps
-    unfolding along
-    along-same none-left d h e = refl
-    along-same (one-more E none-left) d h e = ap (λ x. last x d) (found-same E d h e)
-    along-same (one-more {x} E (one-more {x = y} {y = y′} {xs = r} {ys = r′} F N)) d h e =
-        go (seek v o x (kids v d)) refl (found-same E d h e) (along-same (one-more F N))
-      where
-        next : Bytes → Bytes → List Part → Option ℕ → Target
-        next w p ps u =
-            elim u [
-              | none ↦ noDirectory
-              | some s ↦ elim (isDirectory (sort w s)) [ true ↦ along w p s ps | false ↦ noDirectory ]
-            ]
-
-        go : {f : Option ℕ} (u : Option ℕ) → seek v o x (kids v d) ≡ u → f ≡ seek v o x (kids v d)
-            → ((s : ℕ) → Seen v s → sort v s ≡ directory → along after o′ s (y′ ∷ r′) ≡ along v o s (y ∷ r))
-            → next after o′ (y′ ∷ r′) f ≡ next v o (y ∷ r) (seek v o x (kids v d))
-        go none f g rec = rw (g, f) refl
-        go (some s) f g rec = rw (g, f) (into (sort v s) refl)
-          where
-            into : (K : Sort) → sort v s ≡ K → next after o′ (y′ ∷ r′) (some s) ≡ next v o (y ∷ r) (some s)
-            into inactive i = rw (after-sort s, i, next) refl
-            into directory i = rw (after-sort s, i, next) (rec s (kid-seen S d s h e (seek-some v o x (kids v d) s f .0)) i)
-            into improper i = rw (after-sort s, i, next) refl
-            into (file t) i = rw (after-sort s, i, next) refl
+  after-still : Still v after (Seen v)
+  after-still =
+      record {
+        slots = λ d h e. after-kids d e;
+        entry = λ d s h e c. let A = after-entry s (kid-proper S d s h c) in (A .0, A .1, kid-seen S d s h e c);
+      }
 
   volume-found : (p o : Bytes) {ps os : List Part} → isNoVolume (lookup v p ps) ≡ false → FirstNamed p o q (part 0 j) ps os
       → lookup after o os ≡ lookup v p ps
@@ -197,7 +165,7 @@ module _ {n : ℕ} {v : Bytes} (q : Bytes) (j : ℕ) (S : Sound n v) (proper : p
     where
       go : (b : Bool) → isNoVolume (elim b [ true ↦ along v p volume xs | false ↦ noVolume ]) ≡ false
           → along after o volume ys ≡ elim b [ true ↦ along v p volume xs | false ↦ noVolume ]
-      go true g = along-same p o N volume (volume-seen S) (volume-directory S)
+      go true g = along-same after-still p o N volume (volume-seen S) (volume-directory S)
       go false g = absurd (false≢true (sym g))
 
   volume-gone : (o : Bytes) (x : Part) (xs : List Part) → (Spelled o x q (part 0 j) → ⊥) → lookup after o (x ∷ xs) ≡ noVolume
