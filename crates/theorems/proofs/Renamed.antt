@@ -1,10 +1,11 @@
 -- Rename: the path with the new last name leads to the entry that the old one led to, and the old one to nothing. For the volume, every path leads
 -- where it led once its first name is the new one.
-use Prim.Native.Nat.{ℕ, _+_, _-_, _*_, _≤_, _<_, _/_}
+use Prim.Native.Nat.{ℕ, suc, _+_, _-_, _*_, _≤_, _<_, _/_}
 use mathlib.Core.Path.{_≡_, refl, sym, ap, _∙_}
 use mathlib.Core.List.{List, [], _∷_}
 use mathlib.Core.Option.{Option, none, some}
 use mathlib.Core.Bool.{Bool, true, false, false≢true}
+use lib.ListN.{length}
 use native.Mathlib.Omega.{arith}
 use borrow.Author.Tests.{eq-eqb, ne-eqb}
 use Rattle.model.specs.Bytes.{Bytes, sum, count, _and_}
@@ -15,12 +16,12 @@ use Rattle.model.specs.Calls.{total, target, home, spot, lastPart, isNoVolume, 
 use Rattle.model.specs.Rename.{named, headerNamed, renamed, isOther, nameTaken, renameNumber, rename}
 use Rattle.model.proofs.ByteLaws.{at-or-off, put-off, paste-at, paste-out}
 use Rattle.model.proofs.SumLaws.{is-self}
-use Rattle.model.proofs.Laws.Frame.{at-inj, Named, next-in, chain-same}
+use Rattle.model.proofs.Laws.Frame.{at-inj, at-link, Named, next-in, chain-same}
 use Rattle.model.proofs.Laws.Sound.{and-right, Sound, sound-facts}
-use Rattle.model.proofs.Laws.Keep.{Fields, sort-named, key-same, used-same, directory-kids}
+use Rattle.model.proofs.Laws.Keep.{Fields, sort-named, key-same, used-same, directory-kids, kids-same}
 use Rattle.model.proofs.Laws.Facts.{Seen, kid-seen, kid-proper, volume-seen, volume-directory}
 use Rattle.model.proofs.Laws.Near.{Near, named-near, same-near}
-use Rattle.model.proofs.Laws.One.{Place, Step, slot-head}
+use Rattle.model.proofs.Laws.One.{Place, Step, slot-head, one-keeps, one-entry}
 use Rattle.model.proofs.Laws.Spelling.{Bears, same-bears, bears-same, stored}
 use Rattle.model.proofs.Laws.Relabel.{marks-step, relabel-sound}
 use Rattle.model.proofs.Laws.Lookup.{rows-off, not-false, name-size, entry-led, target-led, seek-some}
@@ -28,9 +29,16 @@ use Rattle.model.proofs.Laws.Twice.{passed}
 use Rattle.model.proofs.Laws.Settled.{done-image}
 use Rattle.model.proofs.Laws.Rename.{now-relabels}
 use Rattle.theorems.proofs.Spelled.{Spelled, spelled-sym, spelled-trans, spelled-bears, bears-spelled, same-spelled, Names, SameNames, names-self, none-left, one-more}
-use Rattle.theorems.proofs.Ways.{under, Reaches, path-reaches, is-there, reaches-at, reaches-names}
+use Rattle.theorems.proofs.Ways.{At, at-seen, at-depth, seek-one, Leads, arrived, onward, reached, start, under, Reaches, path-reaches, is-there, reaches-at, reaches-names}
 use Rattle.theorems.proofs.Below.{Still, along-same}
-use Rattle.theorems.proofs.Carried.{reaches-carried, step-carries, step-top, above-good, found-stays, last-found, last-gone}
+use Rattle.theorems.proofs.Carried.{near-same, step-kids, reaches-carried, step-carries, step-top, above-good, found-stays, last-found, last-gone}
+
+-- A path o that begins with the names of p, and the same path with the name z of q for the last of these.
+pub data Through (p o o′ q : Bytes) (z : Part) : List Part → List Part → List Part → Type 0 where
+  renamed-here : {x y y′ : Part} {ys ys′ : List Part} → Spelled p x o y → Spelled o′ y′ q z → SameNames o o′ ys ys′
+      → Through p o o′ q z (x ∷ []) (y ∷ ys) (y′ ∷ ys′)
+  on-the-way : {x x₂ y y₂ y′ y′₂ : Part} {xs ys ys′ : List Part} → Spelled p x o y → Spelled o y o′ y′
+      → Through p o o′ q z (x₂ ∷ xs) (y₂ ∷ ys) (y′₂ ∷ ys′) → Through p o o′ q z (x ∷ x₂ ∷ xs) (y ∷ y₂ ∷ ys) (y′ ∷ y′₂ ∷ ys′)
 
 -- An entry.
 module _ {n : ℕ} {v : Bytes} {a d : ℕ} (q : Bytes) (j : ℕ) (S : Sound n v) (P : Place v a d) (alive : isActive (sort v a) ≡ true)
@@ -92,12 +100,99 @@ module _ {n : ℕ} {v : Bytes} {a d : ℕ} (q : Bytes) (j : ℕ) (S : Sound n v)
       found-stays S now-sound (step-carries now-step) (step-top now-step) o os e s
       (λ t O u c f i. omega (arith, z, rw i at (O .among))) (λ _. k)
 
+  -- the slots of the entry stay, and so does all that is below it
+  now-kids : (e : ℕ) → Seen v e → sort v e ≡ directory → kids now e ≡ kids v e
+  now-kids e s h = at-or-off e a (λ i. rw i (own (rw i at h))) (λ k. kids-same v now e (one-keeps now-step e s k))
+    where
+      own : sort v a ≡ directory → kids now a ≡ kids v a
+      own f =
+          let M = now-relabels q j S P alive proper open-name .marks in
+          let F : Fields v now a = λ z o g l t.
+          M .out (at a + o) (λ p r. omega arith) (λ p r. t (omega arith) (omega arith))
+          (λ e p r. slot-head S P a (at a + o - key v a * 512) (P .seen) e (omega arith) (omega arith) (omega arith) (omega arith)) in
+          let link : (b i : ℕ) → i < 4 → now (b * 512 + i) ≡ v (b * 512 + i) = λ b i l.
+          M .out (b * 512 + i) (λ p r. at-link a b (b * 512 + i - at a) i (omega arith) l (omega arith))
+          (λ p r. at-link a b (b * 512 + i - at a) i (omega arith) l (omega arith)) (λ e p r. omega arith) in
+          directory-kids now a (now-sort ∙ f)
+          ∙ rw (key-same v now a F, used-same v now a F, chain-same v now (key v a) (used v a) (λ b _. next-in v now b (link b)))
+          (sym (directory-kids v a f))
+
+  now-still : (m : ℕ) → At v a m → Still v now (λ e. (k : ℕ) × At v e k × (m ≤ k))
+  now-still m A =
+      record {
+        slots = λ e h f. now-kids e (at-seen S (h .1)) f;
+        entry = λ e s h f c.
+            let B = under (h .1) f c in
+            let l = h .2 in
+            let O = one-entry now-step e s (at-seen S (h .1)) c (λ i. let g = at-depth S A (rw i at B) in omega arith) in
+            (O .0, named-near (O .1), (suc (h .0), B, omega arith));
+      }
+
+  module _ {p : Bytes} {y : Part} (bears : sameName v (at a) p y ≡ true) (o o′ : Bytes) where
+    -- at the entry
+    entry-same : {m : ℕ} {z z′ : Part} {zs zs′ : List Part} → At v a m → Seen now d → sort now d ≡ directory → Spelled p y o z
+        → Spelled o′ z′ q (part 0 j) → SameNames o o′ zs zs′ → along now o′ d (z′ ∷ zs′) ≡ along v o d (z ∷ zs)
+    unfolding along
+    entry-same {m} {z} {z′} A s h E F N = go N
+      where
+        old : seek v o z (kids v d) ≡ some a
+        old = seek-one S o z d (P .home) (P .holds) a (P .inside) alive (bears-same v (at a) o z (spelled-bears E (same-bears v (at a) p y bears)))
+
+        new : seek now o′ z′ (kids now d) ≡ some a
+        new =
+            seek-one now-sound o′ z′ d s h a (rw (step-kids now-step) (P .inside)) (rw now-sort alive)
+            (bears-same now (at a) o′ z′ (spelled-bears (spelled-sym F) now-bears))
+
+        go : {zs zs′ : List Part} → SameNames o o′ zs zs′ → along now o′ d (z′ ∷ zs′) ≡ along v o d (z ∷ zs)
+        go none-left = rw (old, new) refl
+        go (one-more {x = u} {y = u′} {xs = us} {ys = us′} G M) =
+            rw (old, new, along) (into (sort v a) refl)
+          where
+            into : (T : Sort) → sort v a ≡ T
+                → _≡_ {A = Target} (elim (isDirectory (sort now a)) [ true ↦ along now o′ a (u′ ∷ us′) | false ↦ noDirectory ])
+                (elim (isDirectory (sort v a)) [ true ↦ along v o a (u ∷ us) | false ↦ noDirectory ])
+            into inactive i = rw (now-sort, i) refl
+            into directory i = rw (now-sort, i) (along-same (now-still m A) o o′ (one-more G M) a (m, A, omega arith) i)
+            into improper i = rw (now-sort, i) refl
+            into (file t) i = rw (now-sort, i) refl
+
+    through-same : {e k : ℕ} {ps os os′ : List Part} → At v e k → sort v e ≡ directory → Seen now e → sort now e ≡ directory → At v a (k + length ps)
+        → Leads v p e ps d y → Through p o o′ q (part 0 j) ps os os′ → along now o′ e os′ ≡ along v o e os
+    unfolding along
+    through-same b h s f A (arrived i) (renamed-here E F N) = rw i (entry-same A (rw i at s) (rw i at f) E F N)
+    through-same {k = k} b h s f A (onward {e} {t} {d} {x} {x′} {xs = xs} c g m W) (on-the-way {y = z} {y′ = z′} E F T) =
+        let B = under b h c in
+        let off-e : e ≡ a → ⊥ = λ i. let u = at-depth S A (rw i at b) in omega arith in
+        let off-t : t ≡ a → ⊥ = λ i. let u = at-depth S A (rw i at B) in omega arith in
+        let O = one-entry now-step e t (at-seen S b) c off-t in
+        let c′ : 1 ≤ count t (kids now e) = rw (now-kids e (at-seen S b) h) c in
+        let g′ : sort now t ≡ directory = O .0 ∙ g in
+        let old : seek v o z (kids v e) ≡ some t =
+        seek-one S o z e (at-seen S b) h t c (rw g refl) (bears-same v (at t) o z (spelled-bears E (same-bears v (at t) p x m))) in
+        let new : seek now o′ z′ (kids now e) ≡ some t =
+        seek-one now-sound o′ z′ e s f t c′ (rw g′ refl) (near-same (named-near (O .1)) (spelled-trans E F) m) in
+        let i : k + length (x ∷ x′ ∷ xs) ≡ suc k + length (x′ ∷ xs) = omega arith in
+        rw (old, new, along) (rw (g, g′, along) (through-same B g (kid-seen now-sound e t s f c′) g′ (rw i at A) W T))
+
+    now-through : {ps os os′ : List Part} → At v a (suc (length ps - 2)) → Reaches v p ps d y → Through p o o′ q (part 0 j) ps os os′
+        → lookup now o′ os′ ≡ lookup v o os
+    unfolding lookup
+    now-through A (reached {x} {x′} {xs = xs} m W) (on-the-way {y = z} {y′ = z′} E F T) =
+        let old : sameName v (at volume) o z ≡ true = bears-same v (at volume) o z (spelled-bears E (same-bears v (at volume) p x m)) in
+        let new : sameName now (at volume) o′ z′ ≡ true = near-same (step-top now-step) (spelled-trans E F) m in
+        let i : suc (length (x ∷ x′ ∷ xs) - 2) ≡ 0 + length (x′ ∷ xs) = omega arith in
+        rw (old, new, lookup)
+        (through-same {k = 0} (start refl) (volume-directory S) (volume-seen now-sound) (volume-directory now-sound) (rw i at A) W T)
+
 -- What an accepted rename of the path p of k bytes to the name q of j bytes does, where it leads to the entry a of the directory d.
 pub record Renamed (v p : Bytes) (k : ℕ) (q : Bytes) (j : ℕ) (w : Bytes) (d a : ℕ) : Type 0 where
   pub was : target v p k ≡ there d a
   pub kept : sort w a ≡ sort v a
   -- every path with the names of p but the last, which is q
   pub found : (o : Bytes) (i : ℕ) → Names p o (λ _ z. Spelled o z q (part 0 j)) (parts p k) (parts o i) → target w o i ≡ there d a
+  -- every path through the entry leads where it led, with q in the place of its name
+  pub through : (o : Bytes) (i : ℕ) (o′ : Bytes) (i′ : ℕ) → Through p o o′ q (part 0 j) (parts p k) (parts o i) (parts o′ i′)
+      → target w o′ i′ ≡ target v o i
   -- the path p itself, unless its last name is q already
   pub gone : (Spelled p (lastPart (parts p k)) q (part 0 j) → ⊥) → target w p k ≡ missing d
   -- and in every other spelling
@@ -205,6 +300,9 @@ module _ (len : ℕ) (v p : Bytes) (k : ℕ) (q : Bytes) (j : ℕ) where
         was = is-there (target v p k) (r 3) (r 4) (r 5);
         kept = now-sort q j S (E .spot) (E .alive) proper free;
         found = λ o i N. now-found q j S (E .spot) (E .alive) proper free R o (parts o i) N;
+        through = λ o i o′ i′ T.
+            let A = reaches-at S R in
+            now-through q j S (E .spot) (E .alive) proper free bears o o′ (under (A .0) (A .1) (E .spot .inside)) R T;
         gone = λ off. gone off p (parts p k) (names-self p (parts p k));
         nowhere = λ off o i N. gone off o (parts o i) N;
         elsewhere = λ o i e s f k m. now-elsewhere q j S (E .spot) (E .alive) proper free o (parts o i) e s k m f;
