@@ -30,10 +30,11 @@ use Rattle.theorems.proofs.Spelled.{Spelled, Names, at-last, before, no
 use Rattle.theorems.proofs.Formatted.{Formatted, format-gives, format-accepts}
 use Rattle.theorems.proofs.Created.{EmptyDirectory, Created, create-gives}
 use Rattle.theorems.proofs.Destroyed.{Destroyed, destroy-gives}
-use Rattle.theorems.proofs.Renamed.{Renamed, VolumeRenamed, FirstNamed, first-named, rename-gives, rename-volume-gives}
+use Rattle.theorems.proofs.Renamed.{Through, renamed-here, on-the-way, Renamed, rename-gives}
+use Rattle.theorems.proofs.VolumeRenamed.{VolumeRenamed, FirstNamed, first-named, rename-volume-gives}
 use Rattle.theorems.proofs.Resized.{Resized, set-eof-gives}
 
--- Names and paths as bytes: DAYS/D2, the new names NOTES and HOME, and paths with them, some in small letters.
+-- Names and paths as bytes: DAYS/D2, the new names NOTES, WEEKS and HOME, and paths with them, one in small letters.
 abbrev pub D2 : List ℕ
 D2 = path (site7 ∷ days ∷ (68 ∷ 50 ∷ []) ∷ [])
 
@@ -42,6 +43,12 @@ notes = 78 ∷ 79 ∷ 84 ∷ 69 ∷ 83 ∷ []
 
 abbrev pub small-notes : List ℕ
 small-notes = path ((115 ∷ 105 ∷ 116 ∷ 101 ∷ 55 ∷ []) ∷ (110 ∷ 111 ∷ 116 ∷ 101 ∷ 115 ∷ []) ∷ [])
+
+abbrev pub weeks : List ℕ
+weeks = 87 ∷ 69 ∷ 69 ∷ 75 ∷ 83 ∷ []
+
+abbrev pub WEEKS-D1 : List ℕ
+WEEKS-D1 = path (site7 ∷ weeks ∷ d1 ∷ [])
 
 abbrev pub SITE7 : List ℕ
 SITE7 = path (site7 ∷ [])
@@ -65,6 +72,8 @@ record Observed : Type 0 where
   log-height : ℕ
   log-eof : ℕ
   renames : ℕ
+  renames-directory : ℕ
+  days-target : Target
   renames-volume : ℕ
   volume-target : Target
   d1-target : Target
@@ -84,6 +93,8 @@ observed v =
       log-height = height (sort v 27);
       log-eof = eof v 27;
       renames = rename 8192 v (view LOG) 10 (view notes) 5 .number;
+      renames-directory = rename 8192 v (view DAYS) 11 (view weeks) 5 .number;
+      days-target = target v (view DAYS) 11;
       renames-volume = rename 8192 v (view SITE7) 6 (view home′) 4 .number;
       volume-target = target v (view SITE7) 6;
       d1-target = target v (view D1) 14;
@@ -103,6 +114,8 @@ computed : observed worked
       log-height = 0;
       log-eof = 3;
       renames = 0;
+      renames-directory = 0;
+      days-target = there volume 28;
       renames-volume = 0;
       volume-target = there volume volume;
       d1-target = there 28 105;
@@ -241,7 +254,8 @@ pub d1-still : target without-log (view D1) 14 ≡ there 28 105
 unfolding observed
 d1-still = log-destroyed .elsewhere (view D1) 14 28 105 (ap (λ x. x .d1-target) computed) (λ e. omega (arith, log-spot))
 
--- 4. LOG is renamed to NOTES: the path /site7/notes leads to it, and the old one to nothing. The volume is renamed to HOME: /HOME/DAYS/D1 leads to D1.
+-- 4. LOG is renamed to NOTES: the path /site7/notes leads to it, and the old one to nothing. DAYS is renamed to WEEKS: /SITE7/WEEKS/D1 leads to D1.
+-- The volume is renamed to HOME: /HOME/DAYS/D1 leads to D1.
 abbrev pub with-notes : Bytes
 with-notes = rename 8192 worked (view LOG) 10 (view notes) 5 .image
 
@@ -252,8 +266,9 @@ log-renamed =
 
 path-parts : (parts (view LOG) 10 ≡ part 1 5 ∷ part 7 3 ∷ []) × (parts (view small-notes) 12 ≡ part 1 5 ∷ part 7 5 ∷ [])
     × (parts (view D1) 14 ≡ part 1 5 ∷ part 7 4 ∷ part 12 2 ∷ []) × (parts (view HOME-D1) 13 ≡ part 1 4 ∷ part 6 4 ∷ part 11 2 ∷ [])
+    × (parts (view DAYS) 11 ≡ part 1 5 ∷ part 7 4 ∷ []) × (parts (view WEEKS-D1) 15 ≡ part 1 5 ∷ part 7 5 ∷ part 13 2 ∷ [])
 unfolding cases
-path-parts = (refl, refl, refl, refl)
+path-parts = (refl, refl, refl, refl, refl, refl)
 
 notes-names : Names (view LOG) (view small-notes) (λ _ z. Spelled (view small-notes) z (view notes) (part 0 5)) (parts (view LOG) 10) (parts (view small-notes) 12)
 unfolding cases
@@ -271,6 +286,30 @@ pub log-renamed-away : target with-notes (view LOG) 10 ≡ missing volume
 unfolding cases
 log-renamed-away =
     log-renamed .gone (λ E. let s : _≡_ {A = ℕ} 3 5 = E .sized in omega arith) ∙ ap missing log-home
+
+abbrev pub with-weeks : Bytes
+with-weeks = rename 8192 worked (view DAYS) 11 (view weeks) 5 .image
+
+days-spot : spot (target worked (view DAYS) 11) ≡ 28
+unfolding observed spot
+days-spot = ap spot (ap (λ x. x .days-target) computed)
+
+pub days-renamed : Renamed worked (view DAYS) 11 (view weeks) 5 with-weeks (home (target worked (view DAYS) 11)) (spot (target worked (view DAYS) 11))
+unfolding observed
+days-renamed =
+    rename-gives 8192 worked (view DAYS) 11 (view weeks) 5 (ap (λ x. x .renames-directory) computed) (λ e. omega (arith, days-spot))
+
+weeks-names : Through (view DAYS) (view D1) (view WEEKS-D1) (view weeks) (part 0 5) (parts (view DAYS) 11) (parts (view D1) 14) (parts (view WEEKS-D1) 15)
+unfolding cases
+weeks-names =
+    rw (path-parts .4, path-parts .2, path-parts .5)
+    (on-the-way (spelled-by (view DAYS) (part 1 5) (view D1) (part 1 5) refl) (spelled-by (view D1) (part 1 5) (view WEEKS-D1) (part 1 5) refl)
+    (renamed-here (spelled-by (view DAYS) (part 7 4) (view D1) (part 7 4) refl) (spelled-by (view WEEKS-D1) (part 7 5) (view weeks) (part 0 5) refl)
+    (one-more (spelled-by (view D1) (part 12 2) (view WEEKS-D1) (part 13 2) refl) none-left)))
+
+pub weeks-found : target with-weeks (view WEEKS-D1) 15 ≡ there 28 105
+unfolding observed
+weeks-found = days-renamed .through (view D1) 14 (view WEEKS-D1) 15 weeks-names ∙ ap (λ x. x .d1-target) computed
 
 abbrev pub with-home : Bytes
 with-home = rename 8192 worked (view SITE7) 6 (view home′) 4 .image

@@ -8,6 +8,7 @@ pub mod Counting
 pub mod Destroyed
 pub mod Resized
 pub mod Renamed
+pub mod VolumeRenamed
 pub mod Entered
 pub mod Extended
 pub mod Created
