@@ -125,11 +125,11 @@ unfolding worked observed cases headerNamed renamed isOther nameTaken renameNumb
 computed = refl
 
 -- Bytes.
-bytes : List ℕ → Bool
+unfoldable pub bytes : List ℕ → Bool
 bytes [] = true
 bytes (x ∷ xs) = ltb x 256 and bytes xs
 
-bytes-view : (l : List ℕ) → bytes l ≡ true → Octets (view l)
+pub bytes-view : (l : List ℕ) → bytes l ≡ true → Octets (view l)
 unfolding bytes
 bytes-view [] e i = omega arith
 bytes-view (x ∷ l) e zero = ltb-true x 256 (and-left _ _ e)

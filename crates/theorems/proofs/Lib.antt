@@ -13,3 +13,4 @@ pub mod Entered
 pub mod Extended
 pub mod Created
 pub mod Examples
+pub mod FullExample
