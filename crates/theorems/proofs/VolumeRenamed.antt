@@ -27,7 +27,7 @@ use Rattle.theorems.proofs.Below.{Still, along-same}
 pub data FirstNamed (p o q : Bytes) (z : Part) : List Part → List Part → Type 0 where
   first-named : {x y : Part} {xs ys : List Part} → Spelled o y q z → SameNames p o xs ys → FirstNamed p o q z (x ∷ xs) (y ∷ ys)
 
--- The same where it leads to the volume: what every other path leads to.
+-- What an accepted rename of the volume to the name q of j bytes does to every path.
 pub record VolumeRenamed (v q : Bytes) (j : ℕ) (w : Bytes) : Type 0 where
   -- where a path led, the path with the new first name leads
   pub found : (p : Bytes) (k : ℕ) → isNoVolume (target v p k) ≡ false → (o : Bytes) (i : ℕ) → FirstNamed p o q (part 0 j) (parts p k) (parts o i)
