@@ -21,11 +21,11 @@ use Rattle.model.specs.Destroy.{destroy}
 use Rattle.model.specs.Rename.{headerNamed, renamed, isOther, nameTaken, renameNumber, rename}
 use Rattle.model.specs.SetEof.{setEof}
 use Rattle.model.proofs.ByteLaws.{equal-at}
-use Rattle.model.proofs.Cases.{cases, fresh, stamp, site7, days, d1, path, LOG, DAYS, D1, abc, makeFile, makeDirectory, writeTo}
+use Rattle.cases.proofs.Cases.{cases, fresh, stamp, site7, days, d1, path, LOG, DAYS, D1, abc, makeFile, makeDirectory, writeTo}
 use Rattle.model.proofs.Laws.Sound.{and-left, and-right}
 use Rattle.model.proofs.Laws.Octet.{format-octets}
 use Rattle.model.proofs.Laws.Sequence.{Call, creating, writing, AllLent, calls-sound}
-use Rattle.model.proofs.Laws.Example.{worked, plain, nested, fresh-sound}
+use Rattle.cases.proofs.Example.{worked, plain, nested, fresh-sound}
 use Rattle.theorems.proofs.Spelled.{Spelled, Names, at-last, before, none-left, one-more}
 use Rattle.theorems.proofs.Formatted.{Formatted, format-gives, format-accepts}
 use Rattle.theorems.proofs.Created.{EmptyDirectory, Created, create-gives}

@@ -10,11 +10,11 @@ use Rattle.model.specs.Directory.{mapPlace, Target, there}
 use Rattle.model.specs.Sound.{sound}
 use Rattle.model.specs.Calls.{target, home}
 use Rattle.model.specs.Create.{create, createNeed}
-use Rattle.model.proofs.Cases.{cases, fresh, stamp, site7, DAYS, day, filesFrom, makeFile, makeDirectory}
+use Rattle.cases.proofs.Cases.{cases, fresh, stamp, site7, DAYS, day, filesFrom, makeFile, makeDirectory}
 use Rattle.model.proofs.Laws.Octet.{format-octets, create-octets}
 use Rattle.model.proofs.Laws.Created.{create-sound}
 use Rattle.model.proofs.Laws.Format.{format-sound}
-use Rattle.model.proofs.Laws.Example.{plain, nested}
+use Rattle.cases.proofs.Example.{plain, nested}
 use Rattle.theorems.proofs.Created.{Created, create-gives}
 use Rattle.theorems.proofs.Examples.{bytes, bytes-view}
 
