@@ -20,13 +20,14 @@ use Rattle.model.specs.Create.{Wanted, create}
 use Rattle.model.specs.Destroy.{destroy}
 use Rattle.cases.proofs.Cases.{cases, fresh, stamp, site7, LOG, DAYS, D1, abc, makeFile, makeDirectory, writeTo}
 use Rattle.model.proofs.Laws.Total.{total, reach}
-use Rattle.model.proofs.Laws.Sound.{and-left, and-right, deep, top}
+use Rattle.model.proofs.TestLaws.{and-left, and-right}
+use Rattle.model.proofs.Laws.Sound.{deep, top}
 use Rattle.model.proofs.Laws.Facts.{Seen}
 use Rattle.model.proofs.Laws.One.{Kept}
 use Rattle.model.proofs.Laws.Destroy.{destroy-sound, destroy-others}
 use Rattle.model.proofs.Laws.Octet.{format-octets}
 use Rattle.model.proofs.Laws.Format.{format-sound}
-use Rattle.model.proofs.Laws.Sequence.{Call, creating, all-after, AllLent, calls-sound}
+use Rattle.model.proofs.Laws.Sequence.{Call, creating, writing, all-after, AllLent, calls-sound}
 use Rattle.model.proofs.Laws.Exactly.{Given, createTable, create-exactly}
 use Rattle.model.proofs.Laws.Roles.{leaves, Role, folder, body, unused, HasRole, one-role, past-free}
 use Rattle.model.proofs.Laws.Twice.{passed, passedFrom, passedBlocks, block-once}
@@ -141,19 +142,19 @@ unfolding observed
 log-again = create-exactly 8192 worked (view LOG) 10 plain .refused 0x47 (λ e. omega arith) .0 (ap (λ x. x .again) computed)
 
 -- Names as bytes.
-bytes : List ℕ → Bool
+unfoldable pub bytes : List ℕ → Bool
 bytes [] = true
 bytes (x ∷ xs) = ltb x 256 and bytes xs
 
-bytes-view : (l : List ℕ) → bytes l ≡ true → Octets (view l)
+pub bytes-view : (l : List ℕ) → bytes l ≡ true → Octets (view l)
 unfolding bytes
 bytes-view [] e i = omega arith
 bytes-view (x ∷ l) e zero = ltb-true x 256 (and-left _ _ e)
 bytes-view (x ∷ l) e (suc i) = bytes-view l (and-right _ _ e) i
 
-names-bytes : (bytes site7 ≡ true) × (bytes LOG ≡ true) × (bytes DAYS ≡ true) × (bytes D1 ≡ true)
+pub names-bytes : (bytes site7 ≡ true) × (bytes LOG ≡ true) × (bytes DAYS ≡ true) × (bytes D1 ≡ true) × (bytes (65 ∷ 66 ∷ 67 ∷ []) ≡ true)
 unfolding bytes _and_
-names-bytes = (refl, refl, refl, refl)
+names-bytes = (refl, refl, refl, refl, refl)
 
 -- A fresh volume of 16 blocks is sound: by the theorem, not by computation.
 fresh-number : formatNumber 8192 (view site7) 5 ≡ 0
@@ -167,6 +168,28 @@ fresh-sound = format-sound 8192 zeros (view site7) 5 stamp fresh-number
 fresh-octets : Octets (fresh 16)
 unfolding fresh
 fresh-octets = format-octets 8192 zeros (view site7) 5 stamp (λ i. omega arith) (bytes-view site7 (names-bytes .0))
+
+-- The calls that made the volume of case 2.
+abbrev four : List Call
+four =
+    creating (view LOG) 10 plain
+    ∷ writing (view LOG) 10 0 abc 3 stamp
+    ∷ creating (view DAYS) 11 nested
+    ∷ creating (view D1) 14 plain
+    ∷ []
+
+four-lent : AllLent four
+four-lent = (
+  (bytes-view LOG (names-bytes .1), omega arith),
+  (
+    (bytes-view LOG (names-bytes .1), bytes-view (65 ∷ 66 ∷ 67 ∷ []) (names-bytes .4)),
+    ((bytes-view DAYS (names-bytes .2), omega arith), ((bytes-view D1 (names-bytes .3), omega arith), tt)),
+  ),
+)
+
+pub worked-octets : Octets worked
+unfolding worked makeFile makeDirectory writeTo
+worked-octets = calls-sound 8192 four (fresh 16) four-lent fresh-octets fresh-sound .1
 
 -- LOG, DAYS and D1 are created: the volume is sound again, without a look at its bytes.
 abbrev pub three : List Call

@@ -9,6 +9,7 @@ use native.Mathlib.Nat.{zero-div, zero-mod}
 use borrow.Author.Tests.{eqb-true, eqb-false, eq-eqb, ne-eqb, leb-true, leb-false, le-leb, lt-leb, ltb-true, ltb-false, lt-ltb}
 use Rattle.model.specs.Bytes.{Bytes, Octets, is, one-if, _and_, _or_}
 use Rattle.model.specs.Map.{mapBlocks, weight, bit, setBit, clearBit, mapAt, free, room, firstFree, lowest, taken, given, restClear, freshBits, freshMap}
+use Rattle.model.proofs.TestLaws.{and-left, and-right}
 use Rattle.model.proofs.ByteLaws.{put-at, put-off, clear-in, clear-out, octets-put, octets-clear, zero-at, zero-all, in-or-out, at-or-off}
 
 -- a test of every number below k
@@ -70,16 +71,6 @@ or-right : (p q : Bool) → (p or q) ≡ true → p ≡ false → q ≡ true
 unfolding _or_
 or-right true q e f = absurd (false≢true (sym f))
 or-right false q e f = e
-
-and-left : (p q : Bool) → (p and q) ≡ true → p ≡ true
-unfolding _and_
-and-left true q e = refl
-and-left false q e = absurd (false≢true e)
-
-and-right : (p q : Bool) → (p and q) ≡ true → q ≡ true
-unfolding _and_
-and-right true q e = e
-and-right false q e = absurd (false≢true e)
 
 -- A byte's bits.
 pub bit-most : (x i : ℕ) → bit x i ≤ 1

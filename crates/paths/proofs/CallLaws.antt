@@ -3,41 +3,43 @@
 use Prim.Native.Nat.{ℕ}
 use mathlib.Core.Path.{_≡_, refl, sym, _∙_}
 use mathlib.Core.List.{List, _∷_}
-use mathlib.Core.Bool.{true, false, false≢true}
-use borrow.Author.Tests.{eqb-false, eq-eqb, ne-eqb, ltb-false}
+use mathlib.Core.Bool.{true}
 use Rattle.model.specs.Bytes.{Bytes, Octets, count, _and_}
-use Rattle.model.specs.Names.{part, parts, capitals, properName}
-use Rattle.model.specs.Map.{room}
-use Rattle.model.specs.Directory.{sort, file, at, volume, mapBlock, kids, seek}
+use Rattle.model.specs.Names.{part, capitals, properName}
+use Rattle.model.specs.Directory.{sort, file, at, volume}
 use Rattle.model.specs.Sound.{sound}
 use Rattle.model.specs.Refusals.{settle}
-use Rattle.model.specs.Calls.{total, target, home, spot, lastPart, nothing}
-use Rattle.model.specs.Create.{Wanted, createNeed, createNumber, create}
+use Rattle.model.specs.Calls.{total, target, home, spot, nothing}
+use Rattle.model.specs.Create.{Wanted, create}
 use Rattle.model.specs.Destroy.{destroy}
-use Rattle.model.specs.Rename.{named, renamed, isOther, nameTaken, renameNumber, rename}
-use Rattle.model.specs.Info.{setInfoNumber, setInfo}
+use Rattle.model.specs.Rename.{renamed, renameNumber, rename}
+use Rattle.model.specs.Info.{setInfo}
 use Rattle.model.specs.Write.{write}
 use Rattle.model.specs.SetEof.{setEof}
 use Rattle.model.specs.Catalog.{text}
 use Rattle.model.specs.declared.Stamp.{Stamp}
 use Rattle.model.proofs.ByteLaws.{at-or-off}
 use Rattle.model.proofs.RefusalLaws.{settle-accepted, write-refused, set-eof-refused, rename-refused}
-use Rattle.model.proofs.Laws.Sound.{and-right, and-both, sound-facts}
+use Rattle.model.proofs.TestLaws.{and-right}
+use Rattle.model.proofs.Laws.Sound.{sound-facts}
 use Rattle.model.proofs.Laws.Keep.{Keeps, blocks-same, content-same, eof-same}
 use Rattle.model.proofs.Laws.Facts.{volume-directory}
-use Rattle.model.proofs.Laws.One.{Place, file-directory}
-use Rattle.model.proofs.Laws.Relabel.{Relabels}
-use Rattle.model.proofs.Laws.Lookup.{rows-off, not-false, entry-led, open-led, target-led}
+use Rattle.model.proofs.Laws.One.{file-directory}
+use Rattle.model.proofs.Laws.Relabel.{Relabels, relabel-keeps}
+use Rattle.model.proofs.Laws.Info.{relabels}
+use Rattle.model.proofs.Laws.Spelling.{Bears}
+use Rattle.model.proofs.Laws.Lookup.{rows-off, not-false, entry-led, target-led}
 use Rattle.model.proofs.Laws.Settled.{settled}
-use Rattle.model.proofs.Laws.Rename.{now-relabels}
+use Rattle.model.proofs.Laws.Rename.{entry-bears, now-relabels, whole, open-name}
+use Rattle.model.proofs.Laws.Created.{creates}
 use Rattle.model.proofs.Laws.Destroy.{done}
 use Rattle.model.proofs.Laws.Written.{write-done}
 use Rattle.model.proofs.Laws.Reset.{set-eof-done}
 use Rattle.paths.specs.Ways.{Way, path, replaced, WayStays, WaysStay, Holds}
 use Rattle.paths.proofs.CarryLaws.{Carries, carried-path, stay, names-carry, renamedAt, renamed-all, replaced-off}
-use Rattle.paths.proofs.RelabelLaws.{marks-keep, set-carries, set-keeps, now-carries, after-carries}
-use Rattle.paths.proofs.GoneLaws.{gone-carries, gone-off}
-use Rattle.paths.proofs.NewLaws.{created-stay}
+use Rattle.paths.proofs.RelabelLaws.{set-carries, now-carries, after-carries}
+use Rattle.paths.proofs.GoneLaws.{gone-stays}
+use Rattle.paths.proofs.NewLaws.{entry-stay}
 
 ways-self : (v : Bytes) → WaysStay v v
 ways-self v xs s w = (w, refl)
@@ -58,18 +60,8 @@ keeps-hold {v} {w} {s} K h e =
 -- Create.
 module _ (len : ℕ) (v p : Bytes) (k : ℕ) (w : Wanted) (octets : Octets v) (S : sound (total len) v ≡ true) where
   pub create-ways : WaysStay v (create len v p k w .image)
-  unfolding create createNumber
-  create-ways =
-      settled _ _ v _ _ (WaysStay v) (ways-self v)
-      (λ e.
-      let facts = sound-facts (total len) v S in
-      let r = rows-off _ e refl in
-      let to : ℕ = home (target v p k) in
-      let O = open-led (target-led facts p k) (r 5) (r 6) (r 7) in
-      rw (facts .place)
-      (created-stay p (lastPart (parts p k)) w octets facts (O .home)
-      (λ f z. false≢true (sym (r 8) ∙ and-both _ _ (eq-eqb to volume z) f))
-      (rw (facts .place) at (ltb-false (room (mapBlock v) v (total len)) (createNeed v to) (r 9)))))
+  unfolding create
+  create-ways = settled _ _ v _ _ (WaysStay v) (ways-self v) (λ e. entry-stay (creates len v p k w octets S e))
 
 -- Destroy.
 module _ (len : ℕ) (v p : Bytes) (k : ℕ) (octets : Octets v) (S : sound (total len) v ≡ true) where
@@ -77,31 +69,22 @@ module _ (len : ℕ) (v p : Bytes) (k : ℕ) (octets : Octets v) (S : sound (tot
   unfolding destroy
   destroy-ways xs s n w =
       settled _ _ v _ _ (λ u. WayStays v u xs s) (w, refl)
-      (λ e.
-      let D = done len v p k octets S e in
-      rw (D .sound .place) (carried-path (D .sound) (gone-carries D) xs s w (gone-off D xs volume s w n)))
+      (λ e. let D = done len v p k octets S e in rw (D .sound .place) (gone-stays D xs s n w))
 
 -- Set info.
 module _ (len : ℕ) (v p : Bytes) (k access aux : ℕ) (t : Stamp) (S : sound (total len) v ≡ true) where
-  info-place : setInfoNumber len v p k access (target v p k) ≡ 0 → Place v (spot (target v p k)) (home (target v p k))
-  unfolding setInfoNumber
-  info-place e =
-      let facts = sound-facts (total len) v S in
-      let r = rows-off _ e refl in
-      entry-led facts (target-led facts p k) (r 4) (r 5) (r 6) (eqb-false (spot (target v p k)) volume (r 7)) .spot
-
   pub set-info-ways : WaysStay v (setInfo len v p k access aux t .image)
   unfolding setInfo
   set-info-ways =
       settled _ _ v _ _ (WaysStay v) (ways-self v)
-      (λ e. let facts = sound-facts (total len) v S in stay facts (set-carries access aux t facts (info-place e)))
+      (λ e. stay (sound-facts (total len) v S) (set-carries access aux t (relabels len v p k access aux t S e)))
 
   -- the file that it names
   pub set-info-holds : (h : ℕ) → sort v (spot (target v p k)) ≡ file h → Holds v (setInfo len v p k access aux t .image) (spot (target v p k))
   unfolding setInfo
   set-info-holds h f =
       settled _ _ v _ _ (λ w. Holds v w (spot (target v p k))) (holds-self v (spot (target v p k)))
-      (λ e. keeps-hold (set-keeps access aux t (sound-facts (total len) v S) (info-place e)) h f)
+      (λ e. keeps-hold (relabel-keeps (relabels len v p k access aux t S e)) h f)
 
 -- Write.
 module _ (len : ℕ) (v p : Bytes) (k pos : ℕ) (buffer : Bytes) (size : ℕ) (t : Stamp) (octets : Octets v) (lent : Octets buffer)
@@ -130,16 +113,17 @@ module _ (len : ℕ) (v p : Bytes) (k : ℕ) (q : Bytes) (j : ℕ) (S : sound (t
 
   -- an entry that is not refused
   labels : renameNumber len v p k q j (target v p k) ≡ 0 → (a ≡ volume → ⊥)
-      → Relabels (total len) v (renamed v a q j) a (home (target v p k))
+      → Relabels (total len) v (renamed v a q j) a (home (target v p k)) × Bears (renamed v a q j) (at a) q (part 0 j)
   unfolding renameNumber
   labels e z =
       let facts = sound-facts (total len) v S in
       let r = rows-off _ e refl in
       let E = entry-led facts (target-led facts p k) (r 3) (r 4) (r 5) z in
-      now-relabels q j facts (E .spot) (E .alive) (and-right _ _ (not-false _ (r 2))) (open-name (r 6))
-    where
-      open-name : nameTaken v (home (target v p k)) a q j ≡ false → isOther a (seek v q (part 0 j) (kids v (home (target v p k)))) ≡ false
-      open-name f = unfold nameTaken _and_ in (rw (ne-eqb a volume z) at f)
+      let proper : properName q 0 j ≡ true = and-right _ _ (not-false _ (r 2)) in
+      let free = open-name len v p k q j S z (r 6) in (
+        now-relabels q j facts (E .spot) (E .alive) proper free,
+        entry-bears q j facts (E .spot) (E .alive) proper free .0,
+      )
 
   carries : renameNumber len v p k q j (target v p k) ≡ 0 → Carries v (renamed v a q j) (λ _. ⊥) (renamedAt v a new)
   unfolding renameNumber
@@ -147,13 +131,10 @@ module _ (len : ℕ) (v p : Bytes) (k : ℕ) (q : Bytes) (j : ℕ) (S : sound (t
       let facts = sound-facts (total len) v S in
       let proper : properName q 0 j ≡ true = and-right _ _ (not-false _ (rows-off _ e refl 2)) in
       at-or-off a volume
-      (λ z. rw (whole z) (rw z (after-carries q j facts proper)))
-      (λ z. now-carries q j proper (labels e z))
-    where
-      whole : a ≡ volume → renamed v a q j ≡ named v (at volume) q j
-      whole z = unfold renamed in rw (eq-eqb a volume z, renamed) refl
+      (λ z. rw (whole len v p k q j S z) (rw z (after-carries q j facts proper)))
+      (λ z. let L = labels e z in now-carries q j (L .0) (L .1))
 
-  rename-image : rename len v p k q j .number ≡ 0 → rename len v p k q j .image ≡ renamed v a q j
+  pub rename-image : rename len v p k q j .number ≡ 0 → rename len v p k q j .image ≡ renamed v a q j
   unfolding rename settle
   rename-image e = settle-accepted _ nothing v nothing _ e .1
 
@@ -181,4 +162,4 @@ module _ (len : ℕ) (v p : Bytes) (k : ℕ) (q : Bytes) (j : ℕ) (S : sound (t
       settled _ _ v _ _ (λ w. Holds v w a) (holds-self v a)
       (λ e.
       let R = labels e (λ z. file-directory (sym f ∙ rw z (volume-directory (sound-facts (total len) v S)))) in
-      keeps-hold (marks-keep (R .marks) (R .sorted)) h f)
+      keeps-hold (relabel-keeps (R .0)) h f)

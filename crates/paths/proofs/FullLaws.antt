@@ -12,15 +12,14 @@ use Rattle.model.specs.Format.{formatNumber}
 use Rattle.model.specs.Create.{full, create}
 use Rattle.model.specs.Catalog.{text}
 use Rattle.cases.proofs.Cases.{cases, fresh, stamp, site7, days, DAYS, day}
-use Rattle.model.proofs.Laws.Sound.{and-left, and-right}
+use Rattle.model.proofs.TestLaws.{and-left, and-right}
 use Rattle.model.proofs.Laws.Format.{format-sound}
 use Rattle.model.proofs.Laws.Octet.{format-octets}
 use Rattle.model.proofs.Laws.Sequence.{Call, creating, all-after, AllLent, Unnamed, calls-sound}
-use Rattle.cases.proofs.Example.{plain, nested}
+use Rattle.cases.proofs.Example.{plain, nested, bytes, bytes-view, names-bytes}
 use Rattle.paths.specs.Ways.{Way, Names, stored, holder, pathNames}
 use Rattle.paths.proofs.PathLaws.{spells-path}
 use Rattle.paths.proofs.KeptLaws.{create-path, Unrenamed, calls-path}
-use Rattle.paths.proofs.ExampleLaws.{bytes, bytes-view}
 
 -- c files, the first of them number i
 abbrev makes : ℕ → ℕ → List Call
@@ -48,9 +47,9 @@ makes-unrenamed i (suc c) v ws = (tt, makes-unrenamed (i + 1) c (create 16384 v 
 abbrev first : List Call
 first = creating (view DAYS) 11 nested ∷ makes 0 1
 
-lent : (bytes site7 ≡ true) × (bytes DAYS ≡ true) × (daysLent 0 1 ≡ true) × (daysLent 1 11 ≡ true)
+lent : (daysLent 0 1 ≡ true) × (daysLent 1 11 ≡ true)
 unfolding bytes _and_ day daysLent
-lent = (refl, refl, refl, refl)
+lent = (refl, refl)
 
 fresh-number : formatNumber 16384 (view site7) 5 ≡ 0
 unfolding cases
@@ -58,8 +57,8 @@ fresh-number = refl
 
 first-right : (sound 32 (all-after 16384 first (fresh 32)) ≡ true) × Octets (all-after 16384 first (fresh 32))
 first-right =
-    calls-sound 16384 first (fresh 32) ((bytes-view DAYS (lent .1), omega arith), makes-lent 0 1 (lent .2))
-    (unfold fresh in format-octets 16384 zeros (view site7) 5 stamp (λ i. omega arith) (bytes-view site7 (lent .0)))
+    calls-sound 16384 first (fresh 32) ((bytes-view DAYS (names-bytes .2), omega arith), makes-lent 0 1 (lent .0))
+    (unfold fresh in format-octets 16384 zeros (view site7) 5 stamp (λ i. omega arith) (bytes-view site7 (names-bytes .0)))
     (unfold fresh in format-sound 16384 zeros (view site7) 5 stamp fresh-number)
 
 unfoldable pub begun : Bytes
@@ -68,6 +67,10 @@ begun = all-after 16384 first (fresh 32)
 -- with twelve files it is full
 unfoldable pub twelve : Bytes
 twelve = all-after 16384 (makes 1 11) begun
+
+pub twelve-right : (sound 32 twelve ≡ true) × Octets twelve
+unfolding begun twelve
+twelve-right = calls-sound 16384 (makes 1 11) begun (makes-lent 1 11 (lent .1)) (first-right .1) (first-right .0)
 
 record Observed : Type 0 where
   days-in : ℕ
@@ -113,7 +116,7 @@ first-path =
 pub twelve-path : target twelve (view (day 0)) 14 ≡ there 27 92
 unfolding begun twelve
 twelve-path =
-    calls-path 16384 (makes 1 11) begun (makes-lent 1 11 (lent .3)) (first-right .1) (first-right .0) (view (day 0)) 14 27 92 first-path
+    calls-path 16384 (makes 1 11) begun (makes-lent 1 11 (lent .1)) (first-right .1) (first-right .0) (view (day 0)) 14 27 92 first-path
     (27 ∷ 92 ∷ []) first-way (makes-unnamed 1 11 begun 92 (λ e. omega arith)) (makes-unrenamed 1 11 begun (volume ∷ 27 ∷ 92 ∷ []))
 
 -- DAYS is full, and the thirteenth is not refused: the path leads to the first again.
@@ -133,7 +136,4 @@ unfolding lastOf
 thirteenth = (ap (λ x. x .full) last-computed, ap (λ x. x .number) last-computed)
 
 pub thirteen-path : target (create 16384 twelve (view (day 12)) 14 plain .image) (view (day 0)) 14 ≡ there 27 92
-unfolding begun twelve
-thirteen-path =
-    let R = calls-sound 16384 (makes 1 11) begun (makes-lent 1 11 (lent .3)) (first-right .1) (first-right .0) in
-    create-path 16384 twelve (view (day 12)) 14 plain (R .1) (R .0) (view (day 0)) 14 27 92 twelve-path
+thirteen-path = create-path 16384 twelve (view (day 12)) 14 plain (twelve-right .1) (twelve-right .0) (view (day 0)) 14 27 92 twelve-path

@@ -1,13 +1,13 @@
 -- On a sound volume a path leads to an entry exactly when its names are those along the way to the entry.
-use Prim.Native.Nat.{ℕ, _≤_}
+use Prim.Native.Nat.{ℕ, _+_, _≤_}
 use mathlib.Core.Path.{_≡_, refl, ap, _∙_}
 use mathlib.Core.List.{List, [], _∷_, map}
 use mathlib.Core.Option.{Option, none, some}
-use mathlib.Core.Bool.{Bool, true, false, false≢true}
+use mathlib.Core.Bool.{Bool, true, false}
 use native.Mathlib.Omega.{arith}
-use Rattle.model.specs.Bytes.{Bytes, count}
+use Rattle.model.specs.Bytes.{Bytes, sum, count, is}
 use Rattle.model.specs.Names.{Part, parts, sameName}
-use Rattle.model.specs.Directory.{Sort, inactive, directory, improper, file, sort, isActive, isDirectory, at, volume, kids, seek, Target, noVolume, noDirectory, there, last, along, lookup}
+use Rattle.model.specs.Directory.{directory, sort, isActive, isDirectory, at, volume, kids, seek, Target, noVolume, noDirectory, there, last, along, lookup}
 use Rattle.model.specs.Calls.{target}
 use Rattle.model.specs.Catalog.{nameText}
 use Rattle.model.specs.Sound.{sound}
@@ -16,42 +16,40 @@ use Rattle.model.proofs.Laws.Sound.{Sound, sound-facts}
 use Rattle.model.proofs.Laws.Facts.{Seen, kid-seen, parent-directory, seen-directory, volume-seen}
 use Rattle.model.proofs.Laws.Spelling.{same-bears, bears-alike, twins-two}
 use Rattle.model.proofs.Laws.Lookup.{seek-some, seek-none}
+use Rattle.model.proofs.Laws.Twice.{passed, passedFrom}
 use Rattle.paths.specs.Ways.{Way, holder, Names, stored, spelled, path, Spells}
 use Rattle.paths.proofs.TextLaws.{same-text, text-same}
 
-directory-is : (K : Sort) → isDirectory K ≡ true → K ≡ directory
-directory-is inactive e = absurd (false≢true e)
-directory-is directory e = refl
-directory-is improper e = absurd (false≢true e)
-directory-is (file h) e = absurd (false≢true e)
-
-first-name : {x y : List ℕ} {xs ys : Names} → x ∷ xs ≡ y ∷ ys → x ≡ y
+pub first-name : {x y : List ℕ} {xs ys : Names} → x ∷ xs ≡ y ∷ ys → x ≡ y
 first-name e = cc
 
-other-names : {x y : List ℕ} {xs ys : Names} → x ∷ xs ≡ y ∷ ys → xs ≡ ys
+pub other-names : {x y : List ℕ} {xs ys : Names} → x ∷ xs ≡ y ∷ ys → xs ≡ ys
 other-names e = cc
 
 there-both : {d e s t : ℕ} → there d s ≡ there e t → (d ≡ e) × (s ≡ t)
 there-both f = (cc, cc)
 
 module _ {n : ℕ} {v : Bytes} (S : Sound n v) (p : Bytes) where
-  -- "no two alike in a directory": the entry with a name is the one that is found
-  seek-one : (x : Part) (d s : ℕ) → Seen v d → 1 ≤ count s (kids v d) → isActive (sort v s) ≡ true → sameName v (at s) p x ≡ true
+  -- "no two alike in a directory": the entry with a name is the only one, and the one that is found
+  pub only-one : (x : Part) (d s t : ℕ) → Seen v d → 1 ≤ count s (kids v d) → isActive (sort v s) ≡ true → sameName v (at s) p x ≡ true
+      → 1 ≤ count t (kids v d) → isActive (sort v t) ≡ true → sameName v (at t) p x ≡ true → t ≡ s
+  only-one x d s t h c a e c′ a′ e′ =
+      let A = same-bears v (at s) p x e in
+      let B = same-bears v (at t) p x e′ in
+      at-or-off t s (λ i. i)
+      (λ k. absurd (omega (
+        arith,
+        twins-two v t s (kids v d) k c′ c a′ a (bears-alike v (at t) p x (at s) B A) (bears-alike v (at s) p x (at t) A B),
+        seen-directory S d h (parent-directory v d s c) .unlike,
+      )))
+
+  pub seek-one : (x : Part) (d s : ℕ) → Seen v d → 1 ≤ count s (kids v d) → isActive (sort v s) ≡ true → sameName v (at s) p x ≡ true
       → seek v p x (kids v d) ≡ some s
   seek-one x d s h c a e = go (seek v p x (kids v d)) refl
     where
       go : (o : Option ℕ) → seek v p x (kids v d) ≡ o → o ≡ some s
       go none f = absurd (seek-none v p x (kids v d) f s c a e)
-      go (some t) f =
-          let r = seek-some v p x (kids v d) t f in
-          let A = same-bears v (at s) p x e in
-          let B = same-bears v (at t) p x (r .2) in
-          at-or-off t s (ap some)
-          (λ k. absurd (omega (
-            arith,
-            twins-two v t s (kids v d) k (r .0) c (r .1) a (bears-alike v (at t) p x (at s) B A) (bears-alike v (at s) p x (at t) A B),
-            seen-directory S d h (parent-directory v d s c) .unlike,
-          )))
+      go (some t) f = let r = seek-some v p x (kids v d) t f in ap some (only-one x d s t h c a e (r .0) (r .1) (r .2))
 
   along-step : (x y : Part) (r : List Part) (d s : ℕ) → seek v p x (kids v d) ≡ some s → sort v s ≡ directory
       → along v p d (x ∷ y ∷ r) ≡ along v p s (y ∷ r)
@@ -136,6 +134,33 @@ module _ {n : ℕ} {v : Bytes} (S : Sound n v) (p : Bytes) where
       unfold lookup in
       rw (text-same v volume p x (first-name e), lookup) (way-along r xs volume s (volume-seen S) w (other-names e))
 
+  -- What is on such a way the path passes, but for its end.
+  passed-step : (x y : Part) (r : List Part) (d s : ℕ) → seek v p x (kids v d) ≡ some s → sort v s ≡ directory
+      → passedFrom v p d (x ∷ y ∷ r) ≡ d ∷ passedFrom v p s (y ∷ r)
+  unfolding passedFrom
+  passed-step x y r d s e f = rw (e, f, passedFrom) refl
+
+  way-passed : (ps : List Part) (xs : List ℕ) (d s : ℕ) → Seen v d → Way v d xs s → stored v xs ≡ map (spelled p) ps
+      → (a : ℕ) → count a (d ∷ xs) ≤ count a (passedFrom v p d ps) + is a s
+  unfolding sum
+  way-passed [] [] d s h w e a = unfold passedFrom in omega arith
+  way-passed [] (x ∷ xs) d s h w e a = let z : _≡_ {A = ℕ} 0 1 = cc in absurd (omega arith)
+  way-passed (y ∷ ps) [] d s h w e a = let z : _≡_ {A = ℕ} 0 1 = cc in absurd (omega arith)
+  way-passed (y ∷ []) (x ∷ []) d s h w e a = unfold passedFrom in omega (arith, ap (is a) (w .2))
+  way-passed (y ∷ []) (x ∷ x′ ∷ xs) d s h w e a = let z : _≡_ {A = ℕ} 0 1 = cc in absurd (omega arith)
+  way-passed (y ∷ y′ ∷ ps) (x ∷ []) d s h w e a = let z : _≡_ {A = ℕ} 0 1 = cc in absurd (omega arith)
+  way-passed (y ∷ y′ ∷ ps) (x ∷ x′ ∷ xs) d s h w e a =
+      let f = seek-one y d x h (w .0) (w .1) (text-same v x p y (first-name e)) in
+      let r = way-passed (y′ ∷ ps) (x′ ∷ xs) x s (kid-seen S d x h (parent-directory v d x (w .0)) (w .0)) (w .2) (other-names e) a in
+      rw (passed-step y y′ ps d x f (parent-directory v x x′ (w .2 .0))) (omega (arith, r))
+
+  lookup-passed : (ps : List Part) (xs : List ℕ) (s : ℕ) → Way v volume xs s → path v xs ≡ map (spelled p) ps
+      → (a : ℕ) → count a (volume ∷ xs) ≤ count a (passed v p ps) + is a s
+  lookup-passed [] xs s w e a = let z : _≡_ {A = ℕ} 0 1 = cc in absurd (omega arith)
+  lookup-passed (x ∷ r) xs s w e a =
+      unfold passed in
+      rw (text-same v volume p x (first-name e), passed) (way-passed r xs volume s (volume-seen S) w (other-names e) a)
+
 -- "The path of an entry": the names along the way to it.
 pub path-spells : (n : ℕ) (v : Bytes) → sound n v ≡ true → (p : Bytes) (k d s : ℕ) → target v p k ≡ there d s → Spells v p k d s
 path-spells n v S p k d s e =
@@ -145,3 +170,7 @@ path-spells n v S p k d s e =
 pub spells-path : (n : ℕ) (v : Bytes) → sound n v ≡ true → (p : Bytes) (k d s : ℕ) → Spells v p k d s → target v p k ≡ there d s
 spells-path n v S p k d s W =
     way-lookup (sound-facts n v S) p (parts p k) (W .places) s (W .way) (W .names) ∙ ap (λ e. there e s) (W .held)
+
+pub spells-passed : (n : ℕ) (v : Bytes) → sound n v ≡ true → (p : Bytes) (k d s : ℕ) (W : Spells v p k d s)
+    → (a : ℕ) → count a (volume ∷ W .places) ≤ count a (passed v p (parts p k)) + is a s
+spells-passed n v S p k d s W = lookup-passed (sound-facts n v S) p (parts p k) (W .places) s (W .way) (W .names)

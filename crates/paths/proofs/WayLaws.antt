@@ -9,7 +9,7 @@ use Rattle.model.specs.Directory.{sort, isActive, volume, kids, there}
 use Rattle.model.specs.Calls.{target}
 use Rattle.model.specs.Sound.{sound}
 use Rattle.model.proofs.ByteLaws.{at-or-off}
-use Rattle.model.proofs.SumLaws.{is-self, is-eq}
+use Rattle.model.proofs.SumLaws.{is-eq, sum-some}
 use Rattle.model.proofs.BitLaws.{is-no}
 use Rattle.model.proofs.Laws.Total.{total, reach}
 use Rattle.model.proofs.Laws.Sound.{deep, top, Sound, sound-facts}
@@ -18,14 +18,6 @@ use Rattle.paths.specs.Ways.{Way, holder, path, pathNames}
 use Rattle.paths.proofs.PathLaws.{path-spells}
 
 -- Some way: down the walk to where the entry is met.
-pick : (g : ℕ → ℕ) (ss : List ℕ) → 1 ≤ sum g ss → (y : ℕ) × (1 ≤ count y ss) × (1 ≤ g y)
-unfolding sum
-pick g [] h = absurd (omega arith)
-pick g (x ∷ ss) h =
-    at-or-off (g x) 0
-    (λ e. let r = pick g ss (omega arith) in (r .0, omega (arith, r .1), r .2))
-    (λ n. (x, omega (arith, is-self x), omega arith))
-
 module _ (v : Bytes) (s : ℕ) (alive : isActive (sort v s) ≡ true) where
   abbrev Down : List ℕ → Type 0
   Down ss = (x : ℕ) × (1 ≤ count x ss) × (isActive (sort v x) ≡ true) × (xs : List ℕ) × Way v x xs s
@@ -34,7 +26,7 @@ module _ (v : Bytes) (s : ℕ) (alive : isActive (sort v s) ≡ true) where
   unfolding total
   met zero p ss h = (s, h, alive, [], refl)
   met (suc l) p ss h =
-      let r = pick (λ y. is s y + reach (kids v) s l y (kids v y)) ss h in
+      let r = sum-some (λ y. is s y + reach (kids v) s l y (kids v y)) ss h in
       at-or-off s (r .0) (λ e. (s, rw e (r .1), alive, [], refl))
       (λ n.
       let d = met l (r .0) (kids v (r .0)) (omega (arith, r .2, is-no s (r .0) n)) in

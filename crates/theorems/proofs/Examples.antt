@@ -1,14 +1,14 @@
 -- Each theorem at work on the volume of case 2: LOG is in slot 2 of block 2 (place 27), DAYS in slot 3 (28), DAYS/D1 in slot 2 of block 8 (105), and
 -- 6 blocks are free. What is computed is computed of that volume; what is said of the volume after a call comes from the theorem.
-use Prim.Native.Nat.{ℕ, zero, suc, _*_}
+use Prim.Native.Nat.{ℕ, _*_}
 use mathlib.Core.Path.{_≡_, refl, ap, _∙_}
 use mathlib.Core.List.{List, [], _∷_}
-use mathlib.Core.Bool.{Bool, true}
-use lib.Dec.{eqb, ltb}
+use mathlib.Core.Bool.{true}
+use lib.Dec.{eqb}
 use lib.ListN.{length}
 use native.Mathlib.Omega.{arith}
-use borrow.Author.Tests.{ltb-true, eqb-true}
-use Rattle.model.specs.Bytes.{Bytes, Octets, view, zeros, equalBytes, _and_}
+use borrow.Author.Tests.{eqb-true}
+use Rattle.model.specs.Bytes.{Bytes, view, zeros, equalBytes, _and_}
 use Rattle.model.specs.Names.{Part, part, parts, capitals, properName}
 use Rattle.model.specs.Map.{mapBlocks, room}
 use Rattle.model.specs.Directory.{file, sort, volume, mapPlace, eof, Target, missing, there}
@@ -21,11 +21,10 @@ use Rattle.model.specs.Destroy.{destroy}
 use Rattle.model.specs.Rename.{headerNamed, renamed, isOther, nameTaken, renameNumber, rename}
 use Rattle.model.specs.SetEof.{setEof}
 use Rattle.model.proofs.ByteLaws.{equal-at}
-use Rattle.cases.proofs.Cases.{cases, fresh, stamp, site7, days, d1, path, LOG, DAYS, D1, abc, makeFile, makeDirectory, writeTo}
-use Rattle.model.proofs.Laws.Sound.{and-left, and-right}
-use Rattle.model.proofs.Laws.Octet.{format-octets}
-use Rattle.model.proofs.Laws.Sequence.{Call, creating, writing, AllLent, calls-sound}
-use Rattle.cases.proofs.Example.{worked, plain, nested, fresh-sound}
+use Rattle.cases.proofs.Cases.{cases, fresh, stamp, site7, days, d1, path, LOG, DAYS, D1}
+use Rattle.model.proofs.TestLaws.{and-left, and-right}
+use Rattle.cases.proofs.Example.{worked, plain, nested, worked-octets}
+use Rattle.paths.proofs.ExampleLaws.{log-path, log-spot, days-spot, d1-path}
 use Rattle.theorems.proofs.Spelled.{Spelled, Names, at-last, before, none-left, one-more}
 use Rattle.theorems.proofs.Formatted.{Formatted, format-gives, format-accepts}
 use Rattle.theorems.proofs.Created.{EmptyDirectory, Created, create-gives}
@@ -67,16 +66,13 @@ record Observed : Type 0 where
   creates-directory : ℕ
   d2-home : ℕ
   destroys : ℕ
-  log-target : Target
   log-length : ℕ
   log-height : ℕ
   log-eof : ℕ
   renames : ℕ
   renames-directory : ℕ
-  days-target : Target
   renames-volume : ℕ
   volume-target : Target
-  d1-target : Target
   sets-eof : ℕ
 
 unfoldable observed : Bytes → Observed
@@ -88,16 +84,13 @@ observed v =
       creates-directory = create 8192 v (view D2) 14 nested .number;
       d2-home = home (target v (view D2) 14);
       destroys = destroy 8192 v (view LOG) 10 .number;
-      log-target = target v (view LOG) 10;
       log-length = length (blocks v 27);
       log-height = height (sort v 27);
       log-eof = eof v 27;
       renames = rename 8192 v (view LOG) 10 (view notes) 5 .number;
       renames-directory = rename 8192 v (view DAYS) 11 (view weeks) 5 .number;
-      days-target = target v (view DAYS) 11;
       renames-volume = rename 8192 v (view SITE7) 6 (view home′) 4 .number;
       volume-target = target v (view SITE7) 6;
-      d1-target = target v (view D1) 14;
       sets-eof = setEof 8192 v (view LOG) 10 1000 stamp .number;
     }
 
@@ -109,59 +102,17 @@ computed : observed worked
       creates-directory = 0;
       d2-home = 28;
       destroys = 0;
-      log-target = there volume 27;
       log-length = 1;
       log-height = 0;
       log-eof = 3;
       renames = 0;
       renames-directory = 0;
-      days-target = there volume 28;
       renames-volume = 0;
       volume-target = there volume volume;
-      d1-target = there 28 105;
       sets-eof = 0;
     }
 unfolding worked observed cases headerNamed renamed isOther nameTaken renameNumber rename
 computed = refl
-
--- Bytes.
-unfoldable pub bytes : List ℕ → Bool
-bytes [] = true
-bytes (x ∷ xs) = ltb x 256 and bytes xs
-
-pub bytes-view : (l : List ℕ) → bytes l ≡ true → Octets (view l)
-unfolding bytes
-bytes-view [] e i = omega arith
-bytes-view (x ∷ l) e zero = ltb-true x 256 (and-left _ _ e)
-bytes-view (x ∷ l) e (suc i) = bytes-view l (and-right _ _ e) i
-
-all-bytes : (bytes site7 ≡ true) × (bytes LOG ≡ true) × (bytes DAYS ≡ true) × (bytes D1 ≡ true) × (bytes (65 ∷ 66 ∷ 67 ∷ []) ≡ true)
-unfolding bytes _and_
-all-bytes = (refl, refl, refl, refl, refl)
-
-abbrev four : List Call
-four =
-    creating (view LOG) 10 plain
-    ∷ writing (view LOG) 10 0 abc 3 stamp
-    ∷ creating (view DAYS) 11 nested
-    ∷ creating (view D1) 14 plain
-    ∷ []
-
-four-lent : AllLent four
-four-lent = (
-  (bytes-view LOG (all-bytes .1), omega arith),
-  (
-    (bytes-view LOG (all-bytes .1), bytes-view (65 ∷ 66 ∷ 67 ∷ []) (all-bytes .4)),
-    ((bytes-view DAYS (all-bytes .2), omega arith), ((bytes-view D1 (all-bytes .3), omega arith), tt)),
-  ),
-)
-
-worked-octets : Octets worked
-unfolding worked fresh makeFile makeDirectory writeTo
-worked-octets =
-    calls-sound 8192 four (fresh 16) four-lent
-    (format-octets 8192 zeros (view site7) 5 stamp (λ i. omega arith) (bytes-view site7 (all-bytes .0))) fresh-sound
-    .1
 
 -- Names that are the same as capitals, by a test.
 spelled-by : (p : Bytes) (x : Part) (q : Bytes) (y : Part)
@@ -220,21 +171,13 @@ d2-folder = create-gives 8192 worked (view D2) 14 nested worked-octets (ap (λ x
 pub d2-bare : EmptyDirectory (create 8192 worked (view D2) 14 nested .image) (d2-folder .slot)
 d2-bare = d2-folder .stands .folder refl
 
--- 3. LOG is destroyed: its path leads to nothing in the volume's directory, 7 blocks are free, and the path of D1 leads where it led.
+-- 3. LOG is destroyed: its path leads to nothing in the volume's directory, and 7 blocks are free.
 abbrev pub without-log : Bytes
 without-log = destroy 8192 worked (view LOG) 10 .image
 
-log-at : target worked (view LOG) 10 ≡ there volume 27
-unfolding observed
-log-at = ap (λ x. x .log-target) computed
-
 log-home : home (target worked (view LOG) 10) ≡ volume
 unfolding home
-log-home = ap home log-at
-
-log-spot : spot (target worked (view LOG) 10) ≡ 27
-unfolding spot
-log-spot = ap spot log-at
+log-home = ap home log-path
 
 pub log-destroyed : Destroyed 16 worked (view LOG) 10 without-log
 unfolding observed
@@ -249,10 +192,6 @@ log-space =
     let one : length (blocks worked (spot (target worked (view LOG) 10))) ≡ 1 =
     ap (λ (s : ℕ). length (blocks worked s)) log-spot ∙ ap (λ x. x .log-length) computed in
     omega (arith, log-destroyed .freed, ap (λ x. x .unused) computed)
-
-pub d1-still : target without-log (view D1) 14 ≡ there 28 105
-unfolding observed
-d1-still = log-destroyed .elsewhere (view D1) 14 28 105 (ap (λ x. x .d1-target) computed) (λ e. omega (arith, log-spot))
 
 -- 4. LOG is renamed to NOTES: the path /site7/notes leads to it, and the old one to nothing. DAYS is renamed to WEEKS: /SITE7/WEEKS/D1 leads to D1.
 -- The volume is renamed to HOME: /HOME/DAYS/D1 leads to D1.
@@ -290,10 +229,6 @@ log-renamed-away =
 abbrev pub with-weeks : Bytes
 with-weeks = rename 8192 worked (view DAYS) 11 (view weeks) 5 .image
 
-days-spot : spot (target worked (view DAYS) 11) ≡ 28
-unfolding observed spot
-days-spot = ap spot (ap (λ x. x .days-target) computed)
-
 pub days-renamed : Renamed worked (view DAYS) 11 (view weeks) 5 with-weeks (home (target worked (view DAYS) 11)) (spot (target worked (view DAYS) 11))
 unfolding observed
 days-renamed =
@@ -309,7 +244,7 @@ weeks-names =
 
 pub weeks-found : target with-weeks (view WEEKS-D1) 15 ≡ there 28 105
 unfolding observed
-weeks-found = days-renamed .through (view D1) 14 (view WEEKS-D1) 15 weeks-names ∙ ap (λ x. x .d1-target) computed
+weeks-found = days-renamed .through (view D1) 14 (view WEEKS-D1) 15 weeks-names ∙ d1-path
 
 abbrev pub with-home : Bytes
 with-home = rename 8192 worked (view SITE7) 6 (view home′) 4 .image
@@ -331,7 +266,7 @@ home-names =
 pub d1-found : target with-home (view HOME-D1) 13 ≡ there 28 105
 unfolding observed isNoVolume
 d1-found =
-    let here : target worked (view D1) 14 ≡ there 28 105 = ap (λ x. x .d1-target) computed in
+    let here : target worked (view D1) 14 ≡ there 28 105 = d1-path in
     volume-renamed .found (view D1) 14 (ap isNoVolume here) (view HOME-D1) 13 home-names ∙ here
 
 -- 5. EOF of LOG is set to 1000: a sapling, which takes one block for its index, and 5 are free.

@@ -9,8 +9,6 @@ pub mod Destroyed
 pub mod Resized
 pub mod Renamed
 pub mod VolumeRenamed
-pub mod Entered
-pub mod Extended
 pub mod Created
 pub mod Examples
 pub mod FullExample

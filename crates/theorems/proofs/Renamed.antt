@@ -1,36 +1,39 @@
 -- Rename of an entry: the path with the new last name leads to it, and every path through it leads where it led with the new name in its place. The old
 -- path leads to nothing.
-use Prim.Native.Nat.{ℕ, suc, _+_, _-_, _*_, _≤_, _<_, _/_}
+use Prim.Native.Nat.{ℕ, suc, _+_, _-_, _≤_}
 use mathlib.Core.Path.{_≡_, refl, sym, ap, _∙_}
 use mathlib.Core.List.{List, [], _∷_}
 use mathlib.Core.Option.{some}
 use mathlib.Core.Bool.{true, false}
 use lib.ListN.{length}
 use native.Mathlib.Omega.{arith}
-use borrow.Author.Tests.{ne-eqb}
 use Rattle.model.specs.Bytes.{Bytes, count, _and_}
 use Rattle.model.specs.Names.{Part, part, parts, properName, sameName}
-use Rattle.model.specs.Directory.{Sort, inactive, directory, improper, file, sort, isActive, isDirectory, at, volume, key, used, kids, seek, Target, noDirectory, missing, there, along, lookup}
+use Rattle.model.specs.Directory.{Sort, inactive, directory, improper, file, sort, isActive, isDirectory, at, volume, volumeBlock, kids, seek, Target, noDirectory, missing, there, along, lookup}
 use Rattle.model.specs.Refusals.{settle}
-use Rattle.model.specs.Calls.{total, target, home, spot, lastPart, nameField, nothing}
-use Rattle.model.specs.Rename.{named, headerNamed, renamed, isOther, nameTaken, renameNumber, rename}
-use Rattle.model.proofs.ByteLaws.{at-or-off, put-off, paste-at, paste-out}
-use Rattle.model.proofs.Laws.Frame.{at-link, next-in, chain-same}
-use Rattle.model.proofs.Laws.Sound.{and-right, Sound, sound-facts}
-use Rattle.model.proofs.Laws.Keep.{Fields, key-same, used-same, directory-kids, kids-same}
+use Rattle.model.specs.Calls.{total, target, home, spot, lastPart, nothing}
+use Rattle.model.specs.Rename.{renamed, isOther, renameNumber, rename}
+use Rattle.model.proofs.ByteLaws.{at-or-off}
+use Rattle.model.proofs.BitLaws.{is-no}
+use Rattle.model.proofs.Laws.Near.{Near, named-near}
+use Rattle.model.proofs.TestLaws.{and-right}
+use Rattle.model.proofs.Laws.Sound.{Sound, sound-facts}
+use Rattle.model.proofs.Laws.Keep.{head-name, kids-same}
 use Rattle.model.proofs.Laws.Facts.{Seen, kid-seen, volume-seen, volume-directory}
-use Rattle.model.proofs.Laws.Near.{named-near}
-use Rattle.model.proofs.Laws.One.{Place, Step, slot-head, one-keeps, one-entry}
-use Rattle.model.proofs.Laws.Spelling.{Bears, same-bears, bears-same, stored}
-use Rattle.model.proofs.Laws.Relabel.{marks-step, relabel-sound}
-use Rattle.model.proofs.Laws.Lookup.{rows-off, not-false, name-size, entry-led, target-led, seek-some}
+use Rattle.model.proofs.Laws.One.{Place, Step, one-volume, one-keeps, one-entry}
+use Rattle.model.proofs.Laws.Spelling.{Bears, same-bears, bears-same}
+use Rattle.model.proofs.Laws.Relabel.{Relabels, marks-step, relabel-keeps, relabel-sound}
+use Rattle.model.proofs.Laws.Lookup.{rows-off, not-false, entry-led, target-led, seek-some}
 use Rattle.model.proofs.Laws.Twice.{passed}
-use Rattle.model.proofs.Laws.Settled.{done-image}
-use Rattle.model.proofs.Laws.Rename.{now-relabels}
+use Rattle.model.proofs.Laws.Rename.{entry-bears, now-relabels, open-name}
+use Rattle.paths.specs.Ways.{Way, WayStays}
+use Rattle.paths.proofs.PathLaws.{seek-one, path-spells, spells-passed}
+use Rattle.paths.proofs.CallLaws.{rename-image, rename-stays}
+use Rattle.paths.proofs.KeptLaws.{rename-path}
 use Rattle.theorems.proofs.Spelled.{Spelled, spelled-sym, spelled-trans, spelled-bears, bears-spelled, Names, SameNames, names-self, none-left, one-more}
-use Rattle.theorems.proofs.Ways.{At, at-seen, at-depth, seek-one, Leads, arrived, onward, reached, start, under, Reaches, path-reaches, is-there, reaches-at, reaches-names}
+use Rattle.theorems.proofs.Ways.{At, at-seen, at-depth, Leads, arrived, onward, reached, start, under, Reaches, path-reaches, is-there, reaches-at, reaches-names}
 use Rattle.theorems.proofs.Below.{Still, along-same}
-use Rattle.theorems.proofs.Carried.{near-same, step-kids, reaches-carried, step-carries, step-top, above-good, found-stays, last-found, last-gone}
+use Rattle.theorems.proofs.Carried.{near-same, carried, way-off, step-kids, step-holds, last-found, last-gone}
 
 -- A path o that begins with the names of p, and the same path with the name z of q for the last of these.
 pub data Through (p o o′ q : Bytes) (z : Part) : List Part → List Part → List Part → Type 0 where
@@ -45,41 +48,28 @@ module _ {n : ℕ} {v : Bytes} {a d : ℕ} (q : Bytes) (j : ℕ) (S : Sound n v)
   abbrev now : Bytes
   now = renamed v a q j
 
-  now-name : (i : ℕ) → i < 16 → now (at a + i) ≡ nameField (v (at a) / 16) q (part 0 j) i
-  unfolding renamed
-  now-name i l =
-      rw (ne-eqb a volume (P .proper), renamed)
-      (put-off _ (at a + 0x1E) _ (at a + i) (λ e. omega arith) ∙ header-out (sort v a) refl ∙ paste-at v (at a) 16 _ i l)
-    where
-      once : Bytes
-      once = named v (at a) q j
-
-      header-out : (K : Sort) → sort v a ≡ K → headerNamed K once (key v a) q j (at a + i) ≡ once (at a + i)
-      header-out inactive e = unfold headerNamed in refl
-      header-out improper e = unfold headerNamed in refl
-      header-out (file h) e = unfold headerNamed in refl
-      header-out directory e =
-          unfold headerNamed in
-          paste-out once (key v a * 512 + 4) 16 _ (at a + i)
-          (λ g h. slot-head S P a (at a + i - key v a * 512) (P .seen) e (omega arith) (omega arith) (omega arith) (omega arith))
+  labels : Relabels n v now a d
+  labels = now-relabels q j S P alive proper open-name
 
   now-bears : Bears now (at a) q (part 0 j)
-  now-bears = stored now (at a) q (part 0 j) (v (at a) / 16) (name-size q 0 j proper) now-name .0
+  now-bears = entry-bears q j S P alive proper open-name .0
 
   now-sound : Sound n now
-  now-sound = relabel-sound (now-relabels q j S P alive proper open-name)
+  now-sound = relabel-sound labels
 
   now-step : Step n v now a d
-  now-step = marks-step (now-relabels q j S P alive proper open-name .marks)
+  now-step = marks-step (labels .marks)
 
   now-sort : sort now a ≡ sort v a
-  now-sort = now-relabels q j S P alive proper open-name .sorted
+  now-sort = labels .sorted
 
-  module _ {p : Bytes} {ps : List Part} {y : Part} (R : Reaches v p ps d y) (o : Bytes) (os : List Part) where
+  now-top : Near v now (at volume)
+  now-top = named-near (unfold at in head-name v now volumeBlock (one-volume now-step))
+
+  module _ {p : Bytes} {ps : List Part} {y : Part} (R : Reaches v p ps d y) (o : Bytes) (os : List Part)
+      (stays : (xs : List ℕ) → Way v volume xs d → WayStays v now xs d) where
     carry : {L : Part → Part → Type 0} → Names p o L ps os → (z : Part) × Reaches now o os d z × L y z
-    carry N =
-        let A = reaches-at S R in
-        reaches-carried S (step-carries now-step) (step-top now-step) (above-good S (under (A .0) (A .1) (P .inside))) R N
+    carry N = carried R N stays (step-holds now-step)
 
     now-found : Names p o (λ _ z. Spelled o z q (part 0 j)) ps os → lookup now o os ≡ there d a
     now-found N =
@@ -93,33 +83,14 @@ module _ {n : ℕ} {v : Bytes} {a d : ℕ} (q : Bytes) (j : ℕ) (S : Sound n v)
         last-gone now-step now-sound (C .1) alive m (C .2)
         (λ _ h. off (spelled-trans (C .2) (bears-spelled (same-bears now (at a) o (C .0) h) now-bears)))
 
-  now-elsewhere : (o : Bytes) (os : List Part) (e s : ℕ) → (s ≡ a → ⊥) → count a (passed v o os) ≡ 0 → lookup v o os ≡ there e s
-      → lookup now o os ≡ there e s
-  now-elsewhere o os e s k z =
-      found-stays S now-sound (step-carries now-step) (step-top now-step) o os e s
-      (λ t O u c f i. omega (arith, z, rw i at (O .among))) (λ _. k)
-
   -- the slots of the entry stay, and so does all that is below it
-  now-kids : (e : ℕ) → Seen v e → sort v e ≡ directory → kids now e ≡ kids v e
-  now-kids e s h = at-or-off e a (λ i. rw i (own (rw i at h))) (λ k. kids-same v now e (one-keeps now-step e s k))
-    where
-      own : sort v a ≡ directory → kids now a ≡ kids v a
-      own f =
-          let M = now-relabels q j S P alive proper open-name .marks in
-          let F : Fields v now a = λ z o g l t.
-          M .out (at a + o) (λ p r. omega arith) (λ p r. t (omega arith) (omega arith))
-          (λ e p r. slot-head S P a (at a + o - key v a * 512) (P .seen) e (omega arith) (omega arith) (omega arith) (omega arith)) in
-          let link : (b i : ℕ) → i < 4 → now (b * 512 + i) ≡ v (b * 512 + i) = λ b i l.
-          M .out (b * 512 + i) (λ p r. at-link a b (b * 512 + i - at a) i (omega arith) l (omega arith))
-          (λ p r. at-link a b (b * 512 + i - at a) i (omega arith) l (omega arith)) (λ e p r. omega arith) in
-          directory-kids now a (now-sort ∙ f)
-          ∙ rw (key-same v now a F, used-same v now a F, chain-same v now (key v a) (used v a) (λ b _. next-in v now b (link b)))
-          (sym (directory-kids v a f))
+  now-kids : (e : ℕ) → Seen v e → kids now e ≡ kids v e
+  now-kids e s = at-or-off e a (λ i. rw i (kids-same v now a (relabel-keeps labels))) (λ k. kids-same v now e (one-keeps now-step e s k))
 
   now-still : (m : ℕ) → At v a m → Still v now (λ e. (k : ℕ) × At v e k × (m ≤ k))
   now-still m A =
       record {
-        slots = λ e h f. now-kids e (at-seen S (h .1)) f;
+        slots = λ e h f. now-kids e (at-seen S (h .1));
         entry = λ e s h f c.
             let B = under (h .1) f c in
             let l = h .2 in
@@ -135,11 +106,11 @@ module _ {n : ℕ} {v : Bytes} {a d : ℕ} (q : Bytes) (j : ℕ) (S : Sound n v)
     entry-same {m} {z} {z′} A s h E F N = go N
       where
         old : seek v o z (kids v d) ≡ some a
-        old = seek-one S o z d (P .home) (P .holds) a (P .inside) alive (bears-same v (at a) o z (spelled-bears E (same-bears v (at a) p y bears)))
+        old = seek-one S o z d a (P .home) (P .inside) alive (bears-same v (at a) o z (spelled-bears E (same-bears v (at a) p y bears)))
 
         new : seek now o′ z′ (kids now d) ≡ some a
         new =
-            seek-one now-sound o′ z′ d s h a (rw (step-kids now-step) (P .inside)) (rw now-sort alive)
+            seek-one now-sound o′ z′ d a s (rw (step-kids now-step) (P .inside)) (rw now-sort alive)
             (bears-same now (at a) o′ z′ (spelled-bears (spelled-sym F) now-bears))
 
         go : {zs zs′ : List Part} → SameNames o o′ zs zs′ → along now o′ d (z′ ∷ zs′) ≡ along v o d (z ∷ zs)
@@ -164,12 +135,12 @@ module _ {n : ℕ} {v : Bytes} {a d : ℕ} (q : Bytes) (j : ℕ) (S : Sound n v)
         let off-e : e ≡ a → ⊥ = λ i. let u = at-depth S A (rw i at b) in omega arith in
         let off-t : t ≡ a → ⊥ = λ i. let u = at-depth S A (rw i at B) in omega arith in
         let O = one-entry now-step e t (at-seen S b) c off-t in
-        let c′ : 1 ≤ count t (kids now e) = rw (now-kids e (at-seen S b) h) c in
+        let c′ : 1 ≤ count t (kids now e) = rw (now-kids e (at-seen S b)) c in
         let g′ : sort now t ≡ directory = O .0 ∙ g in
         let old : seek v o z (kids v e) ≡ some t =
-        seek-one S o z e (at-seen S b) h t c (rw g refl) (bears-same v (at t) o z (spelled-bears E (same-bears v (at t) p x m))) in
+        seek-one S o z e t (at-seen S b) c (rw g refl) (bears-same v (at t) o z (spelled-bears E (same-bears v (at t) p x m))) in
         let new : seek now o′ z′ (kids now e) ≡ some t =
-        seek-one now-sound o′ z′ e s f t c′ (rw g′ refl) (near-same (named-near (O .1)) (spelled-trans E F) m) in
+        seek-one now-sound o′ z′ e t s c′ (rw g′ refl) (near-same (named-near (O .1)) (spelled-trans E F) m) in
         let i : k + length (x ∷ x′ ∷ xs) ≡ suc k + length (x′ ∷ xs) = omega arith in
         rw (old, new, along) (rw (g, g′, along) (through-same B g (kid-seen now-sound e t s f c′) g′ (rw i at A) W T))
 
@@ -178,7 +149,7 @@ module _ {n : ℕ} {v : Bytes} {a d : ℕ} (q : Bytes) (j : ℕ) (S : Sound n v)
     unfolding lookup
     now-through A (reached {x} {x′} {xs = xs} m W) (on-the-way {y = z} {y′ = z′} E F T) =
         let old : sameName v (at volume) o z ≡ true = bears-same v (at volume) o z (spelled-bears E (same-bears v (at volume) p x m)) in
-        let new : sameName now (at volume) o′ z′ ≡ true = near-same (step-top now-step) (spelled-trans E F) m in
+        let new : sameName now (at volume) o′ z′ ≡ true = near-same now-top (spelled-trans E F) m in
         let i : suc (length (x ∷ x′ ∷ xs) - 2) ≡ 0 + length (x′ ∷ xs) = omega arith in
         rw (old, new, lookup)
         (through-same {k = 0} (start refl) (volume-directory S) (volume-seen now-sound) (volume-directory now-sound) (rw i at A) W T)
@@ -208,36 +179,45 @@ module _ (len : ℕ) (v p : Bytes) (k : ℕ) (q : Bytes) (j : ℕ) where
   abbrev d : ℕ
   d = home (target v p k)
 
-  open-name : (a ≡ volume → ⊥) → nameTaken v d a q j ≡ false → isOther a (seek v q (part 0 j) (kids v d)) ≡ false
-  unfolding nameTaken _and_
-  open-name z f = rw (ne-eqb a volume z) at f
-
-  renamed-is : renameNumber len v p k q j (target v p k) ≡ 0 → (a ≡ volume → ⊥) → Renamed v p k q j (renamed v a q j) d a
+  renamed-is : renameNumber len v p k q j (target v p k) ≡ 0 → (a ≡ volume → ⊥)
+      → ((xs : List ℕ) (s : ℕ) → count a (volume ∷ xs) ≡ 0 → Way v volume xs s → WayStays v (renamed v a q j) xs s)
+      → ((o : Bytes) (i e s : ℕ) → target v o i ≡ there e s → (s ≡ a → ⊥) → count a (passed v o (parts o i)) ≡ 0
+      → target (renamed v a q j) o i ≡ there e s)
+      → Renamed v p k q j (renamed v a q j) d a
   unfolding renameNumber spot
-  renamed-is e z =
+  renamed-is e z stays still =
       let r = rows-off _ e refl in
       let S = sound-facts (total len) v (not-false _ (r 1)) in
       let proper : properName q 0 j ≡ true = and-right _ _ (not-false _ (r 2)) in
       let E = entry-led S (target-led S p k) (r 3) (r 4) (r 5) z in
-      let free = open-name z (r 6) in
+      let free = open-name len v p k q j (not-false _ (r 1)) z (r 6) in
+      let on : (xs : List ℕ) → Way v volume xs d → WayStays v (renamed v a q j) xs d = λ xs w. stays xs d (way-off S xs d a w (E .spot .inside) z) w in
       let R = path-reaches v p (parts p k) (r 3) (r 4) (λ f. z (ap spot f)) in
       let bears = seek-some v p (lastPart (parts p k)) (kids v d) a (E .found) .2 in
       let gone : (Spelled p (lastPart (parts p k)) q (part 0 j) → ⊥) → (o : Bytes) (os : List Part) → SameNames p o (parts p k) os
       → lookup (renamed v a q j) o os ≡ missing d =
-      λ off o os N. now-gone q j S (E .spot) (E .alive) proper free R o os bears N off in
+      λ off o os N. now-gone q j S (E .spot) (E .alive) proper free R o os on bears N off in
       record {
         was = is-there (target v p k) (r 3) (r 4) (r 5);
         kept = now-sort q j S (E .spot) (E .alive) proper free;
-        found = λ o i N. now-found q j S (E .spot) (E .alive) proper free R o (parts o i) N;
+        found = λ o i N. now-found q j S (E .spot) (E .alive) proper free R o (parts o i) on N;
         through = λ o i o′ i′ T.
             let A = reaches-at S R in
             now-through q j S (E .spot) (E .alive) proper free bears o o′ (under (A .0) (A .1) (E .spot .inside)) R T;
         gone = λ off. gone off p (parts p k) (names-self p (parts p k));
         nowhere = λ off o i N. gone off o (parts o i) N;
-        elsewhere = λ o i e s f k m. now-elsewhere q j S (E .spot) (E .alive) proper free o (parts o i) e s k m f;
+        elsewhere = still;
       }
 
   pub rename-gives : rename len v p k q j .number ≡ 0 → (spot (target v p k) ≡ volume → ⊥)
       → Renamed v p k q j (rename len v p k q j .image) (home (target v p k)) (spot (target v p k))
-  unfolding rename settle
-  rename-gives e z = rw (done-image _ nothing v nothing _ e) (renamed-is e z)
+  unfolding rename settle renameNumber
+  rename-gives e z =
+      let S = not-false _ (rows-off _ e refl 1) in
+      let image = rename-image len v p k q j S e in
+      rw image
+      (renamed-is e z (λ xs s c w. rw image at (rename-stays len v p k q j S xs s c w))
+      (λ o i d s f n m.
+      let W = path-spells (total len) v S o i d s f in
+      let off : count a (volume ∷ W .places) ≡ 0 = omega (arith, spells-passed (total len) v S o i d s W a, m, is-no a s (λ x. n (sym x))) in
+      rw image at (rename-path len v p k q j S o i d s f (W .places) (W .way) off)))

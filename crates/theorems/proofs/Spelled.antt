@@ -7,6 +7,8 @@ use Rattle.model.specs.Bytes.{Bytes}
 use Rattle.model.specs.Names.{Part, capital, capitals, sameName}
 use Rattle.model.proofs.ByteLaws.{equal-cong}
 use Rattle.model.proofs.Laws.Spelling.{Bears}
+use Rattle.paths.specs.Ways.{spelled}
+use Rattle.paths.proofs.TextLaws.{text-eq}
 
 -- Two names that are the same as capitals: x of p and y of q.
 pub record Spelled (p : Bytes) (x : Part) (q : Bytes) (y : Part) : Type 0 where
@@ -39,6 +41,9 @@ bears-spelled A B =
     let s = A .sized in
     let t = B .sized in
     record { sized = sym s ∙ t; same = λ i l. sym (A .spelled i l) ∙ B .spelled i (omega arith) }
+
+pub spelled-text : {p q : Bytes} {x y : Part} → Spelled p x q y → spelled p x ≡ spelled q y
+spelled-text {p} {q} {x} {y} E = rw (← E .sized) (text-eq (capitals p) (x .start) (capitals q) (y .start) (x .size) (E .same))
 
 -- The names of two paths are the same but for the last ones, of which L holds.
 pub data Names (p q : Bytes) (L : Part → Part → Type 0) : List Part → List Part → Type 0 where

@@ -8,13 +8,12 @@ use lib.ListN.{length}
 use native.Mathlib.Omega.{arith}
 use Rattle.model.specs.Bytes.{Bytes, count}
 use Rattle.model.specs.Names.{Part, sameName}
-use Rattle.model.specs.Directory.{Sort, inactive, directory, improper, file, sort, isActive, isDirectory, at, volume, kids, seek, Target, noVolume, noDirectory, missing, there, last, along, lookup}
+use Rattle.model.specs.Directory.{directory, sort, isActive, isDirectory, at, volume, kids, seek, Target, noVolume, noDirectory, missing, there, last, along, lookup}
 use Rattle.model.specs.Calls.{isNoVolume, isNoDirectory, isMissing, isThere, home, spot, lastPart}
-use Rattle.model.proofs.ByteLaws.{at-or-off}
 use Rattle.model.proofs.Laws.Sound.{Sound}
-use Rattle.model.proofs.Laws.Facts.{Seen, kid-seen, kid-proper, one-parent, volume-seen, volume-directory, seen-directory}
-use Rattle.model.proofs.Laws.Lookup.{seek-some, seek-none}
-use Rattle.model.proofs.Laws.Spelling.{same-bears, bears-alike, twins-two}
+use Rattle.model.proofs.Laws.Facts.{Seen, kid-seen, kid-proper, one-parent, volume-seen, volume-directory}
+use Rattle.model.proofs.Laws.Lookup.{directory-is, seek-some}
+use Rattle.paths.proofs.PathLaws.{seek-one}
 use Rattle.theorems.proofs.Spelled.{Spelled, SameNames, Names, same-names}
 
 -- A slot k steps below the volume.
@@ -35,15 +34,7 @@ at-depth {v = v} S (under {d} {s} a e c) (under {d = d′} b f g) =
     let i : d′ ≡ d = one-parent S d′ d s (at-seen S b) (at-seen S a) g c in
     ap suc (at-depth S a (rw i at b))
 
--- The first entry with a name, where it is the only one.
-pub seek-is : (v p : Bytes) (x : Part) (ss : List ℕ) (t : ℕ) → 1 ≤ count t ss → isActive (sort v t) ≡ true → sameName v (at t) p x ≡ true
-    → ((u : ℕ) → 1 ≤ count u ss → isActive (sort v u) ≡ true → sameName v (at u) p x ≡ true → u ≡ t) → seek v p x ss ≡ some t
-seek-is v p x ss t c a n only = go (seek v p x ss) refl
-  where
-    go : (o : Option ℕ) → seek v p x ss ≡ o → o ≡ some t
-    go none e = absurd (seek-none v p x ss e t c a n)
-    go (some u) e = let r = seek-some v p x ss u e in ap some (only u (r .0) (r .1) (r .2))
-
+-- A name that no entry has.
 pub seek-no : (v p : Bytes) (x : Part) (ss : List ℕ)
     → ((u : ℕ) → 1 ≤ count u ss → isActive (sort v u) ≡ true → sameName v (at u) p x ≡ true → ⊥) → seek v p x ss ≡ none
 seek-no v p x ss lacks = go (seek v p x ss) refl
@@ -52,25 +43,6 @@ seek-no v p x ss lacks = go (seek v p x ss) refl
     go none e = refl
     go (some u) e = let r = seek-some v p x ss u e in absurd (lacks u (r .0) (r .1) (r .2))
 
--- in a directory of a sound volume a name is borne by one entry
-module _ {n : ℕ} {v : Bytes} (S : Sound n v) (p : Bytes) (x : Part) (d : ℕ) (seen : Seen v d) (holds : sort v d ≡ directory) where
-  pub only-one : (t u : ℕ) → 1 ≤ count t (kids v d) → isActive (sort v t) ≡ true → sameName v (at t) p x ≡ true
-      → 1 ≤ count u (kids v d) → isActive (sort v u) ≡ true → sameName v (at u) p x ≡ true → u ≡ t
-  only-one t u c a n c′ a′ n′ =
-      at-or-off u t (λ e. e)
-      (λ z.
-      let T = same-bears v (at t) p x n in
-      let U = same-bears v (at u) p x n′ in
-      absurd
-      (omega (
-        arith,
-        seen-directory S d seen holds .unlike,
-        twins-two v u t (kids v d) z c′ c a′ a (bears-alike v (at u) p x (at t) U T) (bears-alike v (at t) p x (at u) T U),
-      )))
-
-  pub seek-one : (t : ℕ) → 1 ≤ count t (kids v d) → isActive (sort v t) ≡ true → sameName v (at t) p x ≡ true → seek v p x (kids v d) ≡ some t
-  seek-one t c a n = seek-is v p x (kids v d) t c a n (λ u. only-one t u c a n)
-
 -- From the directory e the names ps lead to the directory d, in which the last of them, y, is looked up.
 pub data Leads (v p : Bytes) : ℕ → List Part → ℕ → Part → Type 0 where
   arrived : {d e : ℕ} {y : Part} → e ≡ d → Leads v p e (y ∷ []) d y
@@ -78,28 +50,22 @@ pub data Leads (v p : Bytes) : ℕ → List Part → ℕ → Part → Type 0 whe
       → Leads v p t (x′ ∷ xs) d y → Leads v p e (x ∷ x′ ∷ xs) d y
 
 -- what is asked of the way's end
-pub leads-at : {n : ℕ} {v p : Bytes} {e d k : ℕ} {y : Part} {ps : List Part} → Sound n v → At v e k → sort v e ≡ directory → Leads v p e ps d y
+leads-at : {n : ℕ} {v p : Bytes} {e d k : ℕ} {y : Part} {ps : List Part} → Sound n v → At v e k → sort v e ≡ directory → Leads v p e ps d y
     → At v d (k + length ps - 1) × (sort v d ≡ directory)
 leads-at {v = v} {k = k} S a h (arrived e) = let i : k + 1 - 1 ≡ k = omega arith in rw (← e, i) (a, h)
 leads-at {k = k} S a h (onward {e} {t} {d} {x} {x′} {y} {xs} c f m L) =
     let i : suc k + length (x′ ∷ xs) - 1 ≡ k + length (x ∷ x′ ∷ xs) - 1 = omega arith in
     rw (← i) (leads-at S (under a h c) f L)
 
-pub leads-along : {n : ℕ} {v p : Bytes} {e d : ℕ} {y : Part} {ps : List Part} → Sound n v → Seen v e → sort v e ≡ directory → Leads v p e ps d y
+leads-along : {n : ℕ} {v p : Bytes} {e d : ℕ} {y : Part} {ps : List Part} → Sound n v → Seen v e → sort v e ≡ directory → Leads v p e ps d y
     → along v p e ps ≡ last (seek v p y (kids v d)) d
 unfolding along
 leads-along S s h (arrived e) = rw e refl
 leads-along {v = v} {p} S s h (onward {e} {t} {d} {x} {x′} {y} {xs} c f m L) =
     let r = leads-along S (kid-seen S e t s h c) f L in
-    rw (seek-one S p x e s h t c (rw f refl) m, along) (rw (f, along) r)
+    rw (seek-one S p x e t s c (rw f refl) m, along) (rw (f, along) r)
 
-directory-is : (K : Sort) → isDirectory K ≡ true → K ≡ directory
-directory-is inactive e = absurd (false≢true e)
-directory-is directory e = refl
-directory-is improper e = absurd (false≢true e)
-directory-is (file h) e = absurd (false≢true e)
-
-pub along-leads : (v p : Bytes) (e : ℕ) (x : Part) (xs : List Part) → isNoDirectory (along v p e (x ∷ xs)) ≡ false
+along-leads : (v p : Bytes) (e : ℕ) (x : Part) (xs : List Part) → isNoDirectory (along v p e (x ∷ xs)) ≡ false
     → Leads v p e (x ∷ xs) (home (along v p e (x ∷ xs))) (lastPart (x ∷ xs))
 unfolding along last isNoDirectory home lastPart
 along-leads v p e x [] f = arrived (go (seek v p x (kids v e)))
@@ -130,7 +96,7 @@ pub data Reaches (v p : Bytes) : List Part → ℕ → Part → Type 0 where
   reached : {x x′ y : Part} {xs : List Part} {d : ℕ} → sameName v (at volume) p x ≡ true → Leads v p volume (x′ ∷ xs) d y
       → Reaches v p (x ∷ x′ ∷ xs) d y
 
-pub reaches-two : (v p : Bytes) (x y : Part) (r : List Part) → isNoVolume (lookup v p (x ∷ y ∷ r)) ≡ false → isNoDirectory (lookup v p (x ∷ y ∷ r)) ≡ false
+reaches-two : (v p : Bytes) (x y : Part) (r : List Part) → isNoVolume (lookup v p (x ∷ y ∷ r)) ≡ false → isNoDirectory (lookup v p (x ∷ y ∷ r)) ≡ false
     → Reaches v p (x ∷ y ∷ r) (home (lookup v p (x ∷ y ∷ r))) (lastPart (x ∷ y ∷ r))
 unfolding lookup isNoVolume lastPart
 reaches-two v p x y r e f = go (sameName v (at volume) p x) refl e f
@@ -168,7 +134,7 @@ pub reaches-found : {n : ℕ} {v p : Bytes} {ps : List Part} {d : ℕ} {y : Part
     → isActive (sort v s) ≡ true → sameName v (at s) p y ≡ true → lookup v p ps ≡ there d s
 reaches-found {p = p} {d = d} {y} S R s c f m =
     let A = reaches-at S R in
-    reaches-lookup S R ∙ rw (seek-one S p y d (at-seen S (A .0)) (A .1) s c f m) (unfold last in refl)
+    reaches-lookup S R ∙ rw (seek-one S p y d s (at-seen S (A .0)) c f m) (unfold last in refl)
 
 pub reaches-names : {v p q : Bytes} {ps qs : List Part} {d : ℕ} {y : Part} → Reaches v p ps d y → SameNames p q ps qs
     → Names p q (λ x y. Spelled p x q y) ps qs

@@ -10,14 +10,14 @@ use native.Mathlib.Nat.{add-zero, add-assoc}
 use borrow.Author.Tests.{eq-eqb, lt-leb}
 use Rattle.model.specs.Bytes.{Bytes, Octets, sum, count, is, ne, unless, one-if, paste, putWord, word}
 use Rattle.model.specs.Names.{Part, properName, sameName, capitalName}
-use Rattle.model.specs.Map.{mapAt, free, taken}
+use Rattle.model.specs.Map.{mapAt, free, room, taken}
 use Rattle.model.specs.Kinds.{kindFor}
 use Rattle.model.specs.Directory.{Sort, inactive, directory, file, sortOf, sort, isActive, live, at, blockOf, slotOf, directoryType, mapPlace, previous, next, activeCount, parentBlock, field, ftype, key, used, eof, directoryKey, chain, slotsBelow, kids, active}
 use Rattle.model.specs.File.{nodes, blocksOf, blocks, heightFor, span, firstBelow}
 use Rattle.model.specs.Sound.{links, outside, twins, headerFaults, directoryFaults, fileFaults, faultsOf, faults}
 use Rattle.model.specs.Create.{Wanted, directoryKind, entryBytes, subdirectoryHeader, entered}
 use Rattle.model.proofs.ByteLaws.{paste-in, paste-at, paste-out, putWord-out, word-putWord, word-same, long-same}
-use Rattle.model.proofs.BitLaws.{is-yes, is-no, is-both, mapAt-in, mapAt-off, taken-in, taken-out, taken-free, rest-taken, MapSame, same-free, same-rest}
+use Rattle.model.proofs.BitLaws.{is-yes, is-no, is-both, mapAt-in, mapAt-off, taken-in, taken-out, taken-free, rest-taken, MapSame, same-free, same-rest, room-one}
 use Rattle.model.proofs.SumLaws.{sum-zero, count-none}
 use Rattle.model.proofs.Laws.Frame.{at-block, at-place, Named, slots-one}
 use Rattle.model.proofs.Laws.Sound.{Sound}
@@ -96,7 +96,7 @@ module _ {n : ℕ} {v : Bytes} {a d z : ℕ} {p : Bytes} {x : Part} {w : Wanted}
       ∙ taken-out mapPlace v z (b * 512 + j) (λ e f. free-mine S z zn zf b m (omega arith))
       (λ e. mine-off S b j m l (omega arith) (omega (arith, mapAt-in mapPlace n z zn)))
 
-  made-step : Step n v made a d
+  pub made-step : Step n v made a d
   made-step = record { sound = S; spot = P; out = made-out }
 
   -- the entry
@@ -109,7 +109,7 @@ module _ {n : ℕ} {v : Bytes} {a d z : ℕ} {p : Bytes} {x : Part} {w : Wanted}
       field-at made a o r (P .proper)
       ∙ word-same made bytes (at a + o) o (made-in o (omega arith)) (rw (add-assoc (at a) o 1) (made-in (o + 1) l))
 
-  made-bears : Bears made (at a) p x × (made (at a) / 16 ≡ w .kind)
+  pub made-bears : Bears made (at a) p x × (made (at a) / 16 ≡ w .kind)
   made-bears = stored made (at a) p x (w .kind) short (λ i l. made-in i (omega arith) ∙ entry-name p x w z (key v d) i l)
 
   fresh-sort : {K : Sort} {t : ℕ} → Fresh v w a K t → sortOf (w .kind) ≡ K
@@ -117,22 +117,25 @@ module _ {n : ℕ} {v : Bytes} {a d z : ℕ} {p : Bytes} {x : Part} {w : Wanted}
   fresh-sort (a-file e f) = rw e refl
   fresh-sort (a-directory e f g) = rw e refl
 
-  made-sort : sort made a ≡ K
-  made-sort = sort-at made a (P .proper) ∙ rw (made-bears .1) (fresh-sort fresh)
+  pub made-kind : sort made a ≡ sortOf (w .kind)
+  made-kind = sort-at made a (P .proper) ∙ ap sortOf (made-bears .1)
 
-  made-key : key made a ≡ z
+  pub made-sort : sort made a ≡ K
+  made-sort = made-kind ∙ fresh-sort fresh
+
+  pub made-key : key made a ≡ z
   made-key = made-field 0x11 2 (omega arith) ∙ entry-key p x w z (key v d) (omega (arith, S .small))
 
-  made-used : used made a ≡ 1
+  pub made-used : used made a ≡ 1
   made-used = made-field 0x13 4 (omega arith) ∙ entry-used p x w z (key v d)
 
   made-up : directoryKey made a ≡ key made d
   made-up = made-field 0x25 2 (omega arith) ∙ entry-up p x w z (key v d) home-low ∙ sym (one-directory made-step)
 
-  made-type : ftype made a ≡ w .ftype
+  pub made-type : ftype made a ≡ w .ftype
   made-type = ftype-at made a (P .proper) ∙ made-in 0x10 (omega arith) ∙ entry-type p x w z (key v d)
 
-  made-eof : eof made a ≡ newSize w
+  pub made-eof : eof made a ≡ newSize w
   made-eof =
       eof-at made a (P .proper)
       ∙ long-same made bytes (at a + 0x15) 0x15 (made-in 0x15 (omega arith)) (rw (add-assoc (at a) 0x15 1) (made-in 0x16 (omega arith)))
@@ -195,7 +198,7 @@ module _ {n : ℕ} {v : Bytes} {a d z : ℕ} {p : Bytes} {x : Part} {w : Wanted}
           rw (add-assoc (z * 512) 2 1, zero 2 (omega arith), zero 3 (omega arith)) refl,
         )
 
-    made-none : activeCount made z ≡ 0
+    pub made-none : activeCount made z ≡ 0
     unfolding word
     made-none =
         rw (
@@ -248,7 +251,7 @@ module _ {n : ℕ} {v : Bytes} {a d z : ℕ} {p : Bytes} {x : Part} {w : Wanted}
   made-below : (s : ℕ) → 1 ≤ count s (kids made a) → sort made s ≡ inactive
   made-below = rw made-sort (fresh-kids fresh)
 
-  made-active : active made (kids made a) ≡ 0
+  pub made-active : active made (kids made a) ≡ 0
   made-active = sum-zero (λ s. live (sort made s)) (kids made a) (λ s c. rw (made-below s c) refl)
 
   made-twins : twins made (kids made a) ≡ 0
@@ -326,6 +329,10 @@ module _ {n : ℕ} {v : Bytes} {a d z : ℕ} {p : Bytes} {x : Part} {w : Wanted}
   made-free b l =
       let e = rw zf at (taken-free mapPlace v z b octets (mapAt-off mapPlace n z b l (free-map S z zn zf))) in
       omega (arith, e, same-free mapPlace n (taken mapPlace v z) made made-map b l)
+
+  -- one block is taken
+  pub made-room : room mapPlace made n + 1 ≡ room mapPlace v n
+  made-room = sym (room-one mapPlace made v z 1 n (λ b l. omega (arith, made-free b l)) zn)
 
   made-change : Change n v made a d t [] [] (kids made a)
   made-change =

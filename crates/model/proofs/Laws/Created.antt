@@ -15,10 +15,11 @@ use Rattle.model.specs.Directory.{Sort, inactive, directory, improper, f
 use Rattle.model.specs.Calls.{total, target, home, lastPart}
 use Rattle.model.specs.Create.{Wanted, directoryKind, lastBlock, gained, entered, createdAt, created, isFull, full, createNeed, wrongType, createNumber, create}
 use Rattle.model.specs.Sound.{sound}
-use Rattle.model.proofs.BitLaws.{room-one, room-lowest, lowest-free}
+use Rattle.model.proofs.BitLaws.{room-lowest, lowest-free}
 use Rattle.model.proofs.SumLaws.{is-self, sum-append}
 use Rattle.model.proofs.Laws.Frame.{chain-length, slots-length, slots-first}
-use Rattle.model.proofs.Laws.Sound.{and-both, Sound, sound-facts, facts-sound}
+use Rattle.model.proofs.TestLaws.{and-both}
+use Rattle.model.proofs.Laws.Sound.{Sound, sound-facts, facts-sound}
 use Rattle.model.proofs.Laws.Keep.{directory-kids}
 use Rattle.model.proofs.Laws.Facts.{Seen}
 use Rattle.model.proofs.Laws.Most.{directory-most}
@@ -26,7 +27,7 @@ use Rattle.model.proofs.Laws.One.{Place, place, Kept, file-directory, i
 use Rattle.model.proofs.Laws.Spelling.{same-bears, bears-same, bears-named}
 use Rattle.model.proofs.Laws.Lookup.{rows-off, not-false, seek-none, name-size, path-short, path-last, Home, open-led, target-led}
 use Rattle.model.proofs.Laws.Create.{Fresh, a-file, a-directory, Creates, made-sound, made-others}
-use Rattle.model.proofs.Laws.Extend.{Extends, grown-sound, grown-others, grown-octets, grown-place, grown-entry, grown-free, grown-way, grown-kids, grown-off}
+use Rattle.model.proofs.Laws.Extend.{Extends, grown-sound, grown-others, grown-octets, grown-place, grown-entry, grown-room, grown-way, grown-kids, grown-off}
 use Rattle.model.proofs.Laws.Settled.{settled, kept-self, kept-trans}
 
 -- every file is as it was
@@ -100,6 +101,23 @@ unfolding newSort newLevel
 fresh v a (want-file e f) b = a-file e f
 fresh v a (want-directory e f) b = a-directory e f b
 
+-- A new entry in d takes c blocks and gives u: in an inactive slot, or in the first slot of a block that d gains.
+pub data NewEntry (n : ℕ) (v : Bytes) (d : ℕ) (p : Bytes) (x : Part) (w : Wanted) : ℕ → Bytes → Type 0 where
+  in-slot : {s z t : ℕ} {K : Sort} → Creates n v s d z p x w K t → NewEntry n v d p x w 1 (entered mapPlace v d s z p x w)
+  in-block : {e y z z′ t : ℕ} {K : Sort} → Extends n v d e y z → Creates n (gained mapPlace v d y z) (z * 13) d z′ p x w K t
+      → NewEntry n v d p x w 2 (entered mapPlace (gained mapPlace v d y z) d (z * 13) z′ p x w)
+
+pub entry-sound : {n : ℕ} {v : Bytes} {d : ℕ} {p : Bytes} {x : Part} {w : Wanted} {c : ℕ} {u : Bytes} → NewEntry n v d p x w c u → Sound n u
+entry-sound (in-slot C) = made-sound C
+entry-sound (in-block E C) = made-sound C
+
+entry-files : {n : ℕ} {v : Bytes} {d : ℕ} {p : Bytes} {x : Part} {w : Wanted} {c : ℕ} {u : Bytes} → NewEntry n v d p x w c u → Files v u
+entry-files (in-slot C) y h q f = made-others C y h q (λ i. inactive-file {h = h} (sym (C .old) ∙ rw (← i) f)) f
+entry-files (in-block E C) y h q f =
+    let A = grown-others E y h q (λ i. file-directory (sym f ∙ rw i (E .kind))) f in
+    kept-trans A
+    (made-others C y h (A .seen) (λ i. inactive-file {h = h} (sym (C .old) ∙ rw (← i) (A .sorted ∙ f))) (A .sorted ∙ f))
+
 -- In a directory d, k steps below the volume.
 module _ {n : ℕ} {v : Bytes} {d k : ℕ} (p : Bytes) (x : Part) {w : Wanted} (octets : Octets v) (S : Sound n v) (H : Home v d k)
     (lacks : seek v p x (kids v d) ≡ none) (proper : properName p (x .start) (x .size) ≡ true) (short : 2 * (k + 2) ≤ 64) (W : Wants w) where
@@ -121,9 +139,6 @@ module _ {n : ℕ} {v : Bytes} {d k : ℕ} (p : Bytes) (x : Part) {w : Wanted} (
           lacks = seek-none v p x (kids v d) lacks;
           fresh = fresh v s W (way-bottom k S slot-place (H .way) short);
         }
-
-    slot-files : Files v (entered mapPlace v d s (lowest mapPlace v n) p x w)
-    slot-files y h q f = made-others slot-creates y h q (λ i. inactive-file {h = h} (sym (slot-creates .old) ∙ rw (← i) f)) f
 
   -- a full subdirectory
   module _ (e : vacant v (kids v d) ≡ none) (r : 2 ≤ room mapPlace v n) (below : d ≡ volume → ⊥) where
@@ -150,11 +165,7 @@ module _ {n : ℕ} {v : Bytes} {d k : ℕ} (p : Bytes) (x : Part) {w : Wanted} (
         }
 
     full-room : 1 ≤ room mapPlace g n
-    full-room =
-        omega (
-          arith,
-          room-one mapPlace g v z 1 n (λ b l. omega (arith, grown-free full-extends b l)) (room-lowest mapPlace v n (omega arith)),
-        )
+    full-room = omega (arith, grown-room full-extends)
 
     full-lacks : (s : ℕ) → 1 ≤ count s (kids g d) → isActive (sort g s) ≡ true → sameName g (at s) p x ≡ true → ⊥
     full-lacks s c a b = go (ltb 0 (count s (slots (z ∷ [])))) refl
@@ -184,22 +195,16 @@ module _ {n : ℕ} {v : Bytes} {d k : ℕ} (p : Bytes) (x : Part) {w : Wanted} (
           fresh = fresh g (z * 13) W (way-bottom k (grown-sound full-extends) (P .0) (grown-way full-extends d k (H .way)) short);
         }
 
-    full-files : Files v (entered mapPlace g d (z * 13) (lowest mapPlace g n) p x w)
-    full-files t h q f =
-        let A = grown-others full-extends t h q (λ i. file-directory (sym f ∙ rw i (H .holds))) f in
-        kept-trans A
-        (made-others full-creates t h (A .seen) (λ i. inactive-file {h = h} (sym (full-creates .old) ∙ rw (← i) (A .sorted ∙ f))) (A .sorted ∙ f))
-
-  pub create-right : (full v d ≡ true → d ≡ volume → ⊥) → createNeed v d ≤ room mapPlace v n
-      → Sound n (created mapPlace n v d p x w) × Files v (created mapPlace n v d p x w)
+  new-entry : (full v d ≡ true → d ≡ volume → ⊥) → createNeed v d ≤ room mapPlace v n
+      → NewEntry n v d p x w (createNeed v d) (created mapPlace n v d p x w)
   unfolding created createdAt createNeed isFull
-  create-right below r = go (vacant v (kids v d)) refl below r
+  new-entry below r = go (vacant v (kids v d)) refl below r
     where
       go : (o : Option ℕ) → vacant v (kids v d) ≡ o → (isFull o ≡ true → d ≡ volume → ⊥)
           → elim (isFull o) as (λ _. ℕ) [ true ↦ 2 | false ↦ 1 ] ≤ room mapPlace v n
-          → Sound n (createdAt o mapPlace n v d p x w) × Files v (createdAt o mapPlace n v d p x w)
-      go none e b r = (made-sound (full-creates e r (b refl)), full-files e r (b refl))
-      go (some s) e b r = (made-sound (slot-creates s e r), slot-files s e r)
+          → NewEntry n v d p x w (elim (isFull o) as (λ _. ℕ) [ true ↦ 2 | false ↦ 1 ]) (createdAt o mapPlace n v d p x w)
+      go none e b r = in-block (full-extends e r (b refl)) (full-creates e r (b refl))
+      go (some s) e b r = in-slot (slot-creates s e r)
 
 -- The call.
 module _ (len : ℕ) (v p : Bytes) (k : ℕ) (w : Wanted) (octets : Octets v) (S : sound (total len) v ≡ true) where
@@ -209,23 +214,24 @@ module _ (len : ℕ) (v p : Bytes) (k : ℕ) (w : Wanted) (octets : Octets v) (S
   abbrev where-to : ℕ
   where-to = home (target v p k)
 
-  done : createNumber len v p k w (target v p k) ≡ 0
-      → Right (created (mapBlock v) (total len) v where-to p (lastPart (parts p k)) w)
-  unfolding createNumber Right
-  done e =
+  pub creates : createNumber len v p k w (target v p k) ≡ 0
+      → NewEntry (total len) v where-to p (lastPart (parts p k)) w (createNeed v where-to)
+      (created (mapBlock v) (total len) v where-to p (lastPart (parts p k)) w)
+  unfolding createNumber
+  creates e =
       let facts = sound-facts (total len) v S in
       let r = rows-off _ e refl in
       let path : properPath p k ≡ true = not-false _ (r 2) in
       let O = open-led (target-led facts p k) (r 5) (r 6) (r 7) in
-      let R = create-right {k = O .steps} p (lastPart (parts p k)) octets facts (O .home) (O .lacks) (path-last p k path (omega (arith, O .depth)))
+      rw (facts .place)
+      (new-entry {k = O .steps} p (lastPart (parts p k)) octets facts (O .home) (O .lacks) (path-last p k path (omega (arith, O .depth)))
       (omega (arith, O .depth, path-short p k path)) (wants w (not-false _ (r 3)) (r 4))
       (λ f z. false≢true (sym (r 8) ∙ and-both _ _ (eq-eqb where-to volume z) f))
-      (rw (facts .place) at (ltb-false (room (mapBlock v) v (total len)) (createNeed v where-to) (r 9))) in
-      rw (facts .place) (facts-sound (R .0), R .1)
+      (rw (facts .place) at (ltb-false (room (mapBlock v) v (total len)) (createNeed v where-to) (r 9))))
 
   kept : Right (create len v p k w .image)
   unfolding create Right
-  kept = settled _ _ v _ _ Right (S, λ x h s e. kept-self s) done
+  kept = settled _ _ v _ _ Right (S, λ x h s e. kept-self s) (λ e. let N = creates e in (facts-sound (entry-sound N), entry-files N))
 
   pub create-sound : sound (total len) (create len v p k w .image) ≡ true
   unfolding Right

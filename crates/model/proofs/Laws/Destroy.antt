@@ -17,7 +17,8 @@ use Rattle.model.proofs.ByteLaws.{put-at, put-off, putWord-out, word-pu
 use Rattle.model.proofs.BitLaws.{is-both, free-most, mapAt-in, given-out, given-free, given-octets, rest-given, MapSame, same-free, same-rest}
 use Rattle.model.proofs.SumLaws.{is-self, sum-mem, count-none}
 use Rattle.model.proofs.Laws.Total.{total-one}
-use Rattle.model.proofs.Laws.Sound.{and-left, and-right, deep, top, Sound, sound-facts, facts-sound}
+use Rattle.model.proofs.TestLaws.{and-left, and-right}
+use Rattle.model.proofs.Laws.Sound.{deep, top, Sound, sound-facts, facts-sound}
 use Rattle.model.proofs.Laws.Keep.{sort-at}
 use Rattle.model.proofs.Laws.Facts.{own-mine, mine-in, mine-once, mine-off, kid-once, seen-directory}
 use Rattle.model.proofs.Laws.One.{Place, in-slot, in-count, Apart, Step, Others, Change, leaf, inactive-directory, off-blocks, slot-map, slot-head, head-mine, one-entry, one-sound, one-others}
@@ -83,7 +84,7 @@ module _ {n : ℕ} {v : Bytes} {a d : ℕ} (D : Destroys n v a d) where
   abbrev given-back : Bytes
   given-back = givenAll mapPlace v (blocks v a)
 
-  low : (b : ℕ) → 1 ≤ count b (blocks v a) → b < n
+  pub low : (b : ℕ) → 1 ≤ count b (blocks v a) → b < n
   low b h = mine-in S b (own-mine S a b (P .seen) h)
 
   -- no block of a is free
@@ -115,10 +116,10 @@ module _ {n : ℕ} {v : Bytes} {a d : ℕ} (D : Destroys n v a d) where
       ∙ putWord-out _ (key v d * 512 + 0x25) _ _ (λ p q. far (in-count (omega arith) (omega arith) (omega arith)))
       ∙ all-out mapPlace v (blocks v a) _ (λ c h e. mine-off S b j m l (omega arith) (omega (arith, mapAt-in mapPlace n c (low c h))))
 
-  gone-step : Step n v gone a d
+  pub gone-step : Step n v gone a d
   gone-step = record { sound = S; spot = P; out = gone-out }
 
-  gone-sort : sort gone a ≡ inactive
+  pub gone-sort : sort gone a ≡ inactive
   unfolding destroyed sortOf
   gone-sort = sort-at gone a (P .proper) ∙ rw (put-at _ (at a) 0) refl
 
@@ -134,13 +135,21 @@ module _ {n : ℕ} {v : Bytes} {a d : ℕ} (D : Destroys n v a d) where
       omega
       (arith, alive, seen-directory S d (P .home) (P .holds) .counted, sum-mem (λ s. live (sort v s)) a (kids v d) (P .inside))
 
+  -- the blocks of a are free
+  pub gone-free : (b : ℕ) → b < n → free mapPlace gone b ≡ free mapPlace v b + count b (blocks v a)
+  gone-free b l = same-free mapPlace n given-back gone gone-map b l ∙ all-free mapPlace v (blocks v a) octets lone b
+
+  -- below a no slot is active
+  pub gone-bare : (s : ℕ) → 1 ≤ count s (kids v a) → sort v s ≡ inactive
+  gone-bare s h = dead (sort v s) (omega (arith, empty, sum-mem (λ s. live (sort v s)) s (kids v a) h))
+
   gone-change : Change n v gone a d 0 [] (kids v a) []
   gone-change =
       record {
         step = gone-step;
         old = refl;
         new = leaf gone a (λ e. inactive-directory (sym gone-sort ∙ e));
-        off = λ s h. dead (sort v s) (omega (arith, empty, sum-mem (λ s. live (sort v s)) s (kids v a) h));
+        off = gone-bare;
         off′ = λ s h. absurd (count-none s h);
         held = λ s h. absurd (count-none s h);
         level = omega arith;
@@ -149,13 +158,7 @@ module _ {n : ℕ} {v : Bytes} {a d : ℕ} (D : Destroys n v a d) where
         unlike = twins-change v gone a (kids v d) (omega (arith, kid-once S d a (P .home) (P .inside))) (λ t c k. one-entry gone-step d t (P .home) c k)
             (λ t c k e f. absurd (false≢true (rw gone-sort at e)))
             (seen-directory S d (P .home) (P .holds) .unlike);
-        balance = λ b l.
-            omega (
-              arith,
-              off-blocks gone a b gone-sort,
-              same-free mapPlace n given-back gone gone-map b l,
-              all-free mapPlace v (blocks v a) octets lone b,
-            );
+        balance = λ b l. omega (arith, off-blocks gone a b gone-sort, gone-free b l);
         rest = same-rest mapPlace n given-back gone gone-map (all-rest mapPlace n v (blocks v a) octets low (S .rest));
       }
 

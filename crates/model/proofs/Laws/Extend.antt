@@ -8,13 +8,13 @@ use native.Mathlib.Nat.{add-zero, add-assoc}
 use borrow.Author.Tests.{lt-leb}
 use Rattle.model.specs.Bytes.{Bytes, Octets, sum, count, is, unless, one-if, word}
 use Rattle.model.specs.Names.{capitalName}
-use Rattle.model.specs.Map.{mapAt, free, taken}
+use Rattle.model.specs.Map.{mapAt, free, room, taken}
 use Rattle.model.specs.Directory.{inactive, directory, sortOf, sort, live, at, volume, mapPlace, directoryType, previous, next, activeCount, field, ftype, key, used, eof, directoryKey, chain, slots, kids, active}
 use Rattle.model.specs.File.{blocks}
 use Rattle.model.specs.Sound.{links, outside, twins, topFaults, directoryFaults, faultsOf, faults}
 use Rattle.model.specs.Create.{lastBlock, gained}
 use Rattle.model.proofs.ByteLaws.{at-or-off, putWord-out, putLong-out, word-same, word-putWord, word-putWord-off, word-putLong-off, long-putLong, octets-putWord, octets-putLong}
-use Rattle.model.proofs.BitLaws.{is-yes, is-no, is-both, mapAt-in, mapAt-off, taken-in, taken-out, taken-free, taken-octets, rest-taken, MapSame, same-free, same-rest}
+use Rattle.model.proofs.BitLaws.{is-yes, is-no, is-both, mapAt-in, mapAt-off, taken-in, taken-out, taken-free, taken-octets, rest-taken, MapSame, same-free, same-rest, room-one}
 use Rattle.model.proofs.SumLaws.{is-eq, sum-append, sum-zero, count-none}
 use Rattle.model.proofs.Laws.Total.{total-one}
 use Rattle.model.proofs.Laws.Grow.{Way, way-more}
@@ -93,7 +93,7 @@ module _ {n : ℕ} {v : Bytes} {a d y z : ℕ} (E : Extends n v a d y z) where
   grown-out : Apart v grown a d
   grown-out b j m l far = grown-old b j m l (λ g h. far (in-slot (omega arith) (omega arith))) (λ e g h. far (in-link (rw e y-in) h))
 
-  grown-step : Step n v grown a d
+  pub grown-step : Step n v grown a d
   grown-step = record { sound = S; spot = P; out = grown-out }
 
   apart : a ≡ d → ⊥
@@ -106,7 +106,7 @@ module _ {n : ℕ} {v : Bytes} {a d y z : ℕ} (E : Extends n v a d y z) where
       (grown-old (a / 13) (4 + 39 * (a % 13) + o) (slot-mine S P) (omega arith)
       (λ g h. k (omega (arith, at-place a o)) (omega (arith, at-place a o))) (λ e g h. omega arith))
 
-  grown-name : Named v grown (at a)
+  pub grown-name : Named v grown (at a)
   grown-name i l = grown-slot i (omega arith) (λ g h. omega arith)
 
   pub grown-sort : sort grown a ≡ directory
@@ -334,6 +334,10 @@ module _ {n : ℕ} {v : Bytes} {a d y z : ℕ} (E : Extends n v a d y z) where
         same-free mapPlace n (taken mapPlace v z) grown grown-map b l,
         rw zf at (taken-free mapPlace v z b octets (mapAt-off mapPlace n z b l (free-map S z zn zf))),
       )
+
+  -- one block is taken
+  pub grown-room : room mapPlace grown n + 1 ≡ room mapPlace v n
+  grown-room = sym (room-one mapPlace grown v z 1 n (λ b l. omega (arith, grown-free b l)) zn)
 
   pub grown-way : (x k : ℕ) → Way (kids v) x top k → Way (kids grown) x top k
   grown-way x k w = way-more (kids v) (kids grown) (Seen v) stays x w top (λ y c. (top-seen y c, c))

@@ -24,7 +24,8 @@ use Rattle.model.proofs.Laws.Total as Totals
 use Rattle.model.proofs.Laws.Total.{Weight}
 use Rattle.model.proofs.Laws.Grow.{total-inert}
 use Rattle.model.proofs.Laws.Frame.{at-place}
-use Rattle.model.proofs.Laws.Sound.{and-right, and-both, deep, sums, fixed, mine, Sound, facts-sound}
+use Rattle.model.proofs.TestLaws.{and-right, and-both}
+use Rattle.model.proofs.Laws.Sound.{deep, sums, fixed, mine, Sound, facts-sound}
 use Rattle.model.proofs.Laws.Keep.{sort-at}
 use Rattle.model.proofs.Laws.One.{leaf, inactive-directory, off-blocks}
 use Rattle.model.proofs.Laws.Spelling.{within-is, Bears, bears-capital, stored, twins-off}
@@ -114,7 +115,7 @@ module _ (n : ℕ) (q : Bytes) (j : ℕ) (t : Stamp) (large : 16 ≤ n) (small :
   new-word i l f =
       word-same new ways i i (new-ways i (omega arith) (λ g h. f (omega arith) h)) (new-ways (i + 1) (omega arith) (λ g h. f g (omega arith)))
 
-  new-map : (k : ℕ) → k < mapBlocks n * 512 → new (mapPlace * 512 + k) ≡ freshMap (mapPlace + mapBlocks n) n k
+  pub new-map : (k : ℕ) → k < mapBlocks n * 512 → new (mapPlace * 512 + k) ≡ freshMap (mapPlace + mapBlocks n) n k
   unfolding formatted
   new-map k l = paste-at _ (mapPlace * 512) (mapBlocks n * 512) _ k l
 
@@ -189,7 +190,7 @@ module _ (n : ℕ) (q : Bytes) (j : ℕ) (t : Stamp) (large : 16 ≤ n) (small :
   unfolding volumeHeader
   head-total = word-putWord _ 0x25 n (omega arith)
 
-  new-bears : Bears new 1028 q (part 0 j) × (new 1028 / 16 ≡ 0xF)
+  pub new-bears : Bears new 1028 q (part 0 j) × (new 1028 / 16 ≡ 0xF)
   new-bears =
       stored new 1028 q (part 0 j) 0xF size
       (λ i l.
@@ -203,7 +204,7 @@ module _ (n : ℕ) (q : Bytes) (j : ℕ) (t : Stamp) (large : 16 ≤ n) (small :
   new-total : totalBlocks new ≡ n
   new-total = word-same new head 1065 0x25 (new-head 41 (omega arith) (omega arith)) (new-head 42 (omega arith) (omega arith)) ∙ head-total
 
-  new-count : activeCount new 2 ≡ 0
+  pub new-count : activeCount new 2 ≡ 0
   unfolding word
   new-count =
       rw (
@@ -227,7 +228,7 @@ module _ (n : ℕ) (q : Bytes) (j : ℕ) (t : Stamp) (large : 16 ≤ n) (small :
   unfolding sort slotsBelow field
   new-kids = ap (λ bs. drop 1 (slots bs)) new-chain
 
-  new-off : (s : ℕ) → 1 ≤ count s (kids new volume) → sort new s ≡ inactive
+  pub new-off : (s : ℕ) → 1 ≤ count s (kids new volume) → sort new s ≡ inactive
   unfolding sortOf
   new-off s c =
       let r = run-in 51 27 s (rw (new-kids ∙ volume-slots) at c) in
@@ -263,7 +264,7 @@ module _ (n : ℕ) (q : Bytes) (j : ℕ) (t : Stamp) (large : 16 ≤ n) (small :
   unfolding at
   new-name = bears-capital new 1028 q (part 0 j) (new-bears .0) proper
 
-  new-active : active new (kids new volume) ≡ 0
+  pub new-active : active new (kids new volume) ≡ 0
   new-active = sum-zero (λ s. live (sort new s)) (kids new volume) (λ s c. rw (new-off s c) refl)
 
   new-twins : twins new (kids new volume) ≡ 0
@@ -281,21 +282,22 @@ module _ (n : ℕ) (q : Bytes) (j : ℕ) (t : Stamp) (large : 16 ≤ n) (small :
   unfolding sort faultsOf field
   new-faults = rw new-name (omega (arith, new-right))
 
+  abbrev first : ℕ
+  first = mapPlace + mapBlocks n
+
+  -- just the blocks from there on are free
+  pub new-free : (b : ℕ) → b < n → free mapPlace new b ≡ one-if (leb first b and ltb b n)
+  new-free b l = fresh-free first n mapPlace new b (unfold mapAt in new-map (b / 8) (omega (arith, mapAt-in mapPlace n b l)))
+
   new-once : (b : ℕ) → b < n → count b (fixed n) + mine new b + free mapPlace new b ≡ 1
   new-once b l = go (leb first b) refl
     where
-      first : ℕ
-      first = mapPlace + mapBlocks n
-
       owns : mine new b ≡ count b volumeChain
       owns = new-sums (λ _ _ s. count b (blocks new s)) (λ m s e. off-blocks new s b e) ∙ ap (count b) new-blocks
 
-      bit-of : free mapPlace new b ≡ one-if (leb first b and ltb b n)
-      bit-of = fresh-free first n mapPlace new b (unfold mapAt in new-map (b / 8) (omega (arith, mapAt-in mapPlace n b l)))
-
       go : (c : Bool) → leb first b ≡ c → count b (fixed n) + mine new b + free mapPlace new b ≡ 1
-      go true e = let h = leb-true first b e in omega (arith, owns, bit-of, fresh-yes first n b h l, high-owned (mapBlocks n) b h)
-      go false e = let h = leb-false first b e in omega (arith, owns, bit-of, fresh-no first n b (λ f g. omega arith), low-owned (mapBlocks n) b h)
+      go true e = let h = leb-true first b e in omega (arith, owns, new-free b l, fresh-yes first n b h l, high-owned (mapBlocks n) b h)
+      go false e = let h = leb-false first b e in omega (arith, owns, new-free b l, fresh-no first n b (λ f g. omega arith), low-owned (mapBlocks n) b h)
 
   pub new-sound : Sound n new
   new-sound =

@@ -31,7 +31,7 @@ module _ {n : ℕ} {v : Bytes} {a d : ℕ} (access aux : ℕ) (t : Stamp) (S : S
   abbrev set : Bytes
   set = infoSet v a access aux t
 
-  set-name : (s : ℕ) → Named v set (at s)
+  pub set-name : (s : ℕ) → Named v set (at s)
   set-name s i l =
       info-out v a access aux t (at s + i)
       (λ p q. let e = at-off s a i (at s + i - at a) (omega arith) (omega arith) (omega arith) in omega arith)
@@ -52,9 +52,9 @@ module _ {n : ℕ} {v : Bytes} {a d : ℕ} (access aux : ℕ) (t : Stamp) (S : S
 
 -- The call.
 module _ (len : ℕ) (v p : Bytes) (k access aux : ℕ) (t : Stamp) (S : sound (total len) v ≡ true) where
-  done : setInfoNumber len v p k access (target v p k) ≡ 0 → Relabels (total len) v (infoSet v (spot (target v p k)) access aux t) (spot (target v p k)) (home (target v p k))
+  pub relabels : setInfoNumber len v p k access (target v p k) ≡ 0 → Relabels (total len) v (infoSet v (spot (target v p k)) access aux t) (spot (target v p k)) (home (target v p k))
   unfolding setInfoNumber
-  done e =
+  relabels e =
       let facts = sound-facts (total len) v S in
       let r = rows-off _ e refl in
       let E = entry-led facts (target-led facts p k) (r 4) (r 5) (r 6) (eqb-false (spot (target v p k)) volume (r 7)) in
@@ -62,9 +62,9 @@ module _ (len : ℕ) (v p : Bytes) (k access aux : ℕ) (t : Stamp) (S : sound (
 
   pub set-info-sound : sound (total len) (setInfo len v p k access aux t .image) ≡ true
   unfolding setInfo
-  set-info-sound = settled _ _ v _ _ (λ w. sound (total len) w ≡ true) S (λ e. facts-sound (relabel-sound (done e)))
+  set-info-sound = settled _ _ v _ _ (λ w. sound (total len) w ≡ true) S (λ e. facts-sound (relabel-sound (relabels e)))
 
   pub set-info-others : Others v (setInfo len v p k access aux t .image) (spot (target v p k))
   unfolding setInfo
   set-info-others =
-      settled _ _ v _ _ (λ w. Others v w (spot (target v p k))) (others-self v (spot (target v p k))) (λ e. relabel-others (done e))
+      settled _ _ v _ _ (λ w. Others v w (spot (target v p k))) (others-self v (spot (target v p k))) (λ e. relabel-others (relabels e))

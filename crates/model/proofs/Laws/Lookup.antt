@@ -16,7 +16,8 @@ use Rattle.model.specs.Calls.{isNoVolume, isNoDirectory, isMissing, isTh
 use Rattle.model.proofs.RefusalLaws.{first-applies, first-passes}
 use Rattle.model.proofs.SumLaws.{is-self}
 use Rattle.model.proofs.Laws.Grow.{Way, here, way-step}
-use Rattle.model.proofs.Laws.Sound.{and-left, and-right, top, Sound}
+use Rattle.model.proofs.TestLaws.{and-left, and-right}
+use Rattle.model.proofs.Laws.Sound.{top, Sound}
 use Rattle.model.proofs.Laws.Facts.{Seen, kid-seen, volume-seen, volume-directory}
 use Rattle.model.proofs.Laws.One.{Place, place}
 use Rattle.model.proofs.Laws.Spelling.{within-is}
@@ -97,7 +98,7 @@ pub data Led (v p : Bytes) (y : Part) (c : ℕ) : Target → Type 0 where
   is-there : (d k s : ℕ) → Home v d k → k + 1 ≡ c → seek v p y (kids v d) ≡ some s → Led v p y c (there d s)
   is-volume : Led v p y c (there volume volume)
 
-directory-is : (K : Sort) → isDirectory K ≡ true → K ≡ directory
+pub directory-is : (K : Sort) → isDirectory K ≡ true → K ≡ directory
 directory-is inactive e = absurd (false≢true e)
 directory-is directory e = refl
 directory-is improper e = absurd (false≢true e)

@@ -15,7 +15,7 @@ use Rattle.model.proofs.ByteLaws.{put-at, put-off, paste-out, putWord-o
 use Rattle.model.proofs.Laws.Keep.{sort-at, field-at, eof-at, ftype-at}
 use Rattle.model.proofs.Laws.Near.{Near}
 
-stamp-octets : (t : Stamp) → Octets (stampBytes t)
+pub stamp-octets : (t : Stamp) → Octets (stampBytes t)
 unfolding stampBytes
 stamp-octets t = octets-paste _ _ _ _ (digit-bound (t .date)) (λ i l. digit-bound (t .time) i)
 

@@ -17,17 +17,15 @@ use Rattle.model.specs.Rename.{named, headerNamed, renamed, renameNumber
 use Rattle.model.specs.Create.{Wanted, directoryKind, gained, entryBytes, subdirectoryHeader, entered, createdAt, created, createNumber, create}
 use Rattle.model.specs.Sound.{sound}
 use Rattle.model.specs.declared.Stamp.{Stamp}
-use Rattle.model.proofs.ByteLaws.{octets-put, octets-paste, octets-putWord, octets-putLong, digit-bound}
+use Rattle.model.proofs.ByteLaws.{octets-put, octets-paste, octets-putWord, octets-putLong}
 use Rattle.model.proofs.BitLaws.{taken-octets, fresh-byte}
-use Rattle.model.proofs.Laws.Sound.{and-right, sound-facts}
+use Rattle.model.proofs.TestLaws.{and-right}
+use Rattle.model.proofs.Laws.Sound.{sound-facts}
 use Rattle.model.proofs.Laws.Spelling.{capital-most}
 use Rattle.model.proofs.Laws.Lookup.{rows-off, not-false, name-size, path-last, open-led, target-led}
 use Rattle.model.proofs.Laws.Created.{Wants, want-file, want-directory, wants}
+use Rattle.model.proofs.Laws.Noted.{stamp-octets}
 use Rattle.model.proofs.Laws.Settled.{settled}
-
-stamp-octets : (t : Stamp) → Octets (stampBytes t)
-unfolding stampBytes
-stamp-octets t = octets-paste _ 2 2 _ (digit-bound (t .date)) (λ i h. digit-bound (t .time) i)
 
 octets-stamp : (f : Bytes) (a : ℕ) (t : Stamp) → Octets f → Octets (paste f a 4 (stampBytes t))
 octets-stamp f a t o = octets-paste f a 4 (stampBytes t) o (λ i h. stamp-octets t i)

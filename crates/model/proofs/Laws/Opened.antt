@@ -7,7 +7,8 @@ use Rattle.model.specs.Directory.{Sort, inactive, directory, improper, f
 use Rattle.model.specs.Names.{properPath}
 use Rattle.model.specs.Sound.{wholeBlocks}
 use Rattle.model.specs.Calls.{total, notProdos, notSound, badPath, isNoVolume, isNoDirectory, isMissing, home, spot, target}
-use Rattle.model.proofs.Laws.Sound.{and-left, sound-facts}
+use Rattle.model.proofs.TestLaws.{and-left}
+use Rattle.model.proofs.Laws.Sound.{sound-facts}
 use Rattle.model.proofs.Laws.Facts.{seen-proper, volume-directory}
 use Rattle.model.proofs.Laws.Lookup.{not-false, entry-led, target-led}
 use Rattle.model.proofs.Laws.Entry.{Ready}

@@ -3,16 +3,16 @@ use Prim.Native.Nat.{ℕ, _≤_}
 use mathlib.Core.Path.{_≡_, refl, ap}
 use mathlib.Core.List.{List, [], _∷_}
 use mathlib.Core.Option.{Option, none, some}
-use mathlib.Core.Bool.{Bool, true, false, false≢true}
+use mathlib.Core.Bool.{Bool, true, false}
 use native.Mathlib.Omega.{arith}
 use Rattle.model.specs.Bytes.{Bytes, sum, count, _and_}
 use Rattle.model.specs.Names.{Part, parts}
-use Rattle.model.specs.Directory.{Sort, inactive, directory, improper, file, sort, isActive, isDirectory, at, volume, kids, seek, Target, noVolume, noDirectory, last, along, lookup}
+use Rattle.model.specs.Directory.{directory, sort, isActive, isDirectory, at, volume, kids, seek, Target, noVolume, noDirectory, last, along, lookup}
 use Rattle.model.specs.Calls.{target}
 use Rattle.model.proofs.SumLaws.{is-self}
 use Rattle.model.proofs.Laws.Sound.{Sound}
 use Rattle.model.proofs.Laws.Facts.{Seen, kid-seen, volume-seen, volume-directory}
-use Rattle.model.proofs.Laws.Lookup.{seek-some}
+use Rattle.model.proofs.Laws.Lookup.{directory-is, seek-some}
 use Rattle.model.proofs.Laws.Near.{Near, same-near}
 
 -- An entry keeps its name, and is a directory, another active entry or none, as it was.
@@ -34,12 +34,6 @@ names-self v =
       entry = λ d s h c. record { alive = refl; folder = refl; near = near (at s) };
       top = near (at volume);
     }
-
-folder-is : (K : Sort) → isDirectory K ≡ true → K ≡ directory
-folder-is inactive e = absurd (false≢true e)
-folder-is directory e = refl
-folder-is improper e = absurd (false≢true e)
-folder-is (file h) e = absurd (false≢true e)
 
 seek-same : (v v′ p : Bytes) (x : Part) (ss : List ℕ) → ((s : ℕ) → 1 ≤ count s ss → SameEntry v v′ s) → seek v′ p x ss ≡ seek v p x ss
 unfolding seek sum
@@ -78,7 +72,7 @@ module _ {n : ℕ} {v : Bytes} (S : Sound n v) {v′ : Bytes} (N : SameNames v v
           into : (s : ℕ) → Seen v s → isDirectory (sort v′ s) ≡ isDirectory (sort v s) → (b : Bool) → isDirectory (sort v s) ≡ b
               → (Seen v s → sort v s ≡ directory → along v′ p s (y ∷ r) ≡ along v p s (y ∷ r))
               → next v′ (some s) ≡ next v (some s)
-          into s k i true j rec = rw (i, j, next) (rec k (folder-is (sort v s) j))
+          into s k i true j rec = rw (i, j, next) (rec k (directory-is (sort v s) j))
           into s k i false j rec = rw (i, j, next) refl
 
   lookup-same : (ps : List Part) → lookup v′ p ps ≡ lookup v p ps

@@ -19,7 +19,8 @@ use Rattle.model.specs.Calls.{total, spot, target, allows, readBit}
 use Rattle.model.specs.declared.Stamp.{Stamp}
 use Rattle.model.proofs.ByteLaws.{at-or-off, paste-at, paste-after}
 use Rattle.model.proofs.RefusalLaws.{first-passes, settle-accepted}
-use Rattle.model.proofs.Laws.Sound.{facts-sound, and-both}
+use Rattle.model.proofs.TestLaws.{and-both}
+use Rattle.model.proofs.Laws.Sound.{facts-sound}
 use Rattle.model.proofs.Laws.Move.{by-lt}
 use Rattle.model.proofs.Laws.Entry.{Done}
 use Rattle.model.proofs.Laws.Paths.{target-same}

@@ -56,7 +56,7 @@ module _ {n : ℕ} {v v′ : Bytes} {a d : ℕ} (R : Relabels n v v′ a d) wher
       out (b * 512 + j) (λ p q. s p (omega arith)) (λ p q. s (omega arith) (omega arith))
       (λ e p q. t e (omega arith) (omega arith) (omega arith))
 
-  relabel-keeps : Keeps v v′ a
+  pub relabel-keeps : Keeps v v′ a
   relabel-keeps =
       record {
         sorted = R .sorted;

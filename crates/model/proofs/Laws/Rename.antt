@@ -19,7 +19,8 @@ use Rattle.model.proofs.BitLaws.{MapSame, same-free, same-rest}
 use Rattle.model.proofs.SumLaws.{sum-eq}
 use Rattle.model.proofs.Laws.Total.{total-le, total-eq, Edge, root, child}
 use Rattle.model.proofs.Laws.Frame.{at-inj, Named, previous-in, twins-same}
-use Rattle.model.proofs.Laws.Sound.{and-right, deep, top, Sound, sound-facts, facts-sound}
+use Rattle.model.proofs.TestLaws.{and-right}
+use Rattle.model.proofs.Laws.Sound.{deep, top, Sound, sound-facts, facts-sound}
 use Rattle.model.proofs.Laws.Keep.{Keeps, Head, head-word, map-same, misnamed-same, badge-same, sort-same, sort-named, key-same, blocks-same, content-same, kids-same, faults-same}
 use Rattle.model.proofs.Laws.Facts.{Seen, Placed, seen-placed, kid-placed, placed-proper, kid-once, mine-apart, directory-key, seen-directory, volume-seen, volume-directory}
 use Rattle.model.proofs.Laws.One.{Place, Others, slot-head, file-directory, one-entry}
@@ -95,7 +96,7 @@ module _ {n : ℕ} {v : Bytes} {a d : ℕ} (q : Bytes) (j : ℕ) (S : Sound n v)
   size : j < 16
   size = name-size q 0 j proper
 
-  entry-bears : Bears now (at a) q (part 0 j) × (now (at a) / 16 ≡ v (at a) / 16)
+  pub entry-bears : Bears now (at a) q (part 0 j) × (now (at a) / 16 ≡ v (at a) / 16)
   entry-bears = stored now (at a) q (part 0 j) (v (at a) / 16) size now-name
 
   header-bears : sort v a ≡ directory
@@ -139,7 +140,7 @@ module _ {n : ℕ} {v : Bytes} (q : Bytes) (j : ℕ) (S : Sound n v) (proper : p
   unfolding at
   after-out i f = paste-out v (at volume) 16 _ i (λ p r. f (omega arith) (omega arith))
 
-  after-bears : Bears after (at volume) q (part 0 j) × (after (at volume) / 16 ≡ v (at volume) / 16)
+  pub after-bears : Bears after (at volume) q (part 0 j) × (after (at volume) / 16 ≡ v (at volume) / 16)
   after-bears = stored after (at volume) q (part 0 j) (v (at volume) / 16) (name-size q 0 j proper) (λ i l. paste-at v (at volume) 16 _ i l)
 
   -- a slot of a directory, and a header, are not the volume's header
@@ -159,10 +160,10 @@ module _ {n : ℕ} {v : Bytes} (q : Bytes) (j : ℕ) (S : Sound n v) (proper : p
   after-head : (x : ℕ) → Seen v x → sort v x ≡ directory → (x ≡ volume → ⊥) → Head v after (key v x)
   after-head x h e z i g l _ = after-block (key v x) i (omega arith) (λ f _ _. z (volume-key x (key v x) h (directory-key S x h e) f))
 
-  after-name : (x : ℕ) → Placed v x → (sort after x ≡ sort v x) × Named v after (at x)
+  pub after-name : (x : ℕ) → Placed v x → (sort after x ≡ sort v x) × Named v after (at x)
   after-name x h = let f : Named v after (at x) = λ i l. after-slot x h i (omega arith) in (sort-named v after x f, f)
 
-  after-keeps : (x : ℕ) → Seen v x → Keeps v after x
+  pub after-keeps : (x : ℕ) → Seen v x → Keeps v after x
   after-keeps x h =
       record {
         sorted = at-or-off x volume (λ e. rw e (volume-directory-of after ∙ sym (volume-directory-of v))) (λ z. after-name x (seen-placed S x h z) .0);
@@ -259,6 +260,13 @@ module _ (len : ℕ) (v p : Bytes) (k : ℕ) (q : Bytes) (j : ℕ) (S : sound (t
   abbrev there : ℕ
   there = spot (target v p k)
 
+  pub whole : there ≡ volume → renamed v there q j ≡ named v (at volume) q j
+  whole z = unfold renamed in rw (eq-eqb there volume z, renamed) refl
+
+  pub open-name : (there ≡ volume → ⊥) → nameTaken v (home (target v p k)) there q j ≡ false
+      → isOther there (seek v q (part 0 j) (kids v (home (target v p k)))) ≡ false
+  open-name z f = unfold nameTaken _and_ in (rw (ne-eqb there volume z) at f)
+
   Right : Bytes → Type 0
   Right w = (sound (total len) w ≡ true) × Others v w there
 
@@ -274,13 +282,6 @@ module _ (len : ℕ) (v p : Bytes) (k : ℕ) (q : Bytes) (j : ℕ) (S : sound (t
       let E = entry-led facts (target-led facts p k) (r 3) (r 4) (r 5) z in
       let R = now-relabels q j facts (E .spot) (E .alive) proper (open-name z (r 6)) in
       (facts-sound (relabel-sound R), relabel-others R))
-    where
-      whole : there ≡ volume → renamed v there q j ≡ named v (at volume) q j
-      whole z = unfold renamed in rw (eq-eqb there volume z, renamed) refl
-
-      open-name : (there ≡ volume → ⊥) → nameTaken v (home (target v p k)) there q j ≡ false
-          → isOther there (seek v q (part 0 j) (kids v (home (target v p k)))) ≡ false
-      open-name z f = unfold nameTaken _and_ in (rw (ne-eqb there volume z) at f)
 
   kept : Right (rename len v p k q j .image)
   unfolding rename Right

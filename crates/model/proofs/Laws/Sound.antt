@@ -12,23 +12,9 @@ use Rattle.model.specs.Directory.{directory, sort, mapBlock, mapPlace, v
 use Rattle.model.specs.File.{blocks}
 use Rattle.model.specs.Walk.{levelMost, visits}
 use Rattle.model.specs.Sound.{prodos, differ, volumeFaults, topFaults, directoryFaults, faultsOf, faults, owned, eachOnce, faultless, sound}
+use Rattle.model.proofs.TestLaws.{and-left, and-right, and-both}
 use Rattle.model.proofs.SumLaws.{is-eq, sum-append, sum-gather}
 use Rattle.model.proofs.Laws.Total.{Weight, total, visits-total, reach-down}
-
--- Tests that hold together.
-pub and-left : (p q : Bool) → (p and q) ≡ true → p ≡ true
-unfolding _and_
-and-left true q e = refl
-and-left false q e = absurd (false≢true e)
-
-pub and-right : (p q : Bool) → (p and q) ≡ true → q ≡ true
-unfolding _and_
-and-right true q e = e
-and-right false q e = absurd (false≢true e)
-
-pub and-both : (p q : Bool) → p ≡ true → q ≡ true → (p and q) ≡ true
-unfolding _and_
-and-both p q e f = rw (e, f) refl
 
 -- The sum of a weight over the walk of a volume.
 abbrev pub deep : ℕ

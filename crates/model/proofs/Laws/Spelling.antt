@@ -16,7 +16,7 @@ use Rattle.model.proofs.ByteLaws.{put-at, put-off, paste-in, equal-at, 
 use Rattle.model.proofs.BitLaws.{is-no}
 use Rattle.model.proofs.SumLaws.{is-self, sum-append, sum-mem, sum-zero}
 use Rattle.model.proofs.Laws.Frame.{Named, alike-same, twins-same}
-use Rattle.model.proofs.Laws.Sound.{and-left, and-right, and-both}
+use Rattle.model.proofs.TestLaws.{and-left, and-right, and-both}
 
 -- Bytes of names.
 pub within-in : (low high x : ℕ) → low ≤ x → x ≤ high → within low high x ≡ true

@@ -10,7 +10,7 @@ use native.Mathlib.Omega.{arith}
 use borrow.Author.Tests.{ltb-true, ltb-false}
 use Rattle.model.specs.Bytes.{Bytes, sum, count, gather, is}
 use Rattle.model.specs.Names.{Part, sameName}
-use Rattle.model.specs.Directory.{Sort, inactive, directory, improper, file, sort, isDirectory, at, volume, key, used, chain, kids, seek, Target, noVolume, noDirectory, last, along, lookup}
+use Rattle.model.specs.Directory.{directory, sort, isDirectory, at, volume, key, used, chain, kids, seek, Target, noVolume, noDirectory, last, along, lookup}
 use Rattle.model.specs.File.{blocks}
 use Rattle.model.specs.Walk.{visits}
 use Rattle.model.specs.Sound.{faults, sound}
@@ -20,7 +20,7 @@ use Rattle.model.proofs.Laws.Total.{total, reach, reach-down, visits-to
 use Rattle.model.proofs.Laws.Sound.{deep, top, sums, mine, Sound, sound-facts}
 use Rattle.model.proofs.Laws.Keep.{directory-blocks}
 use Rattle.model.proofs.Laws.Facts.{seen-once, mine-once, volume-directory, level-le}
-use Rattle.model.proofs.Laws.Lookup.{seek-some}
+use Rattle.model.proofs.Laws.Lookup.{directory-is, seek-some}
 
 -- The slots of the walk.
 pub reach-once : (n : ℕ) (v : Bytes) → sound n v ≡ true → (x : ℕ) → reach (kids v) x deep volume top ≤ 1
@@ -78,12 +78,6 @@ passed-along v p (x ∷ y ∷ r) d e f = go (seek v p x (kids v d)) e f (passed-
             → 1 ≤ count (home (elim b [ true ↦ along v p s (y ∷ r) | false ↦ noDirectory ])) (elim b [ true ↦ d ∷ passedFrom v p s (y ∷ r) | false ↦ d ∷ [] ])
         more true e f = omega (arith, g s e f)
         more false e f = absurd (false≢true (sym f))
-
-directory-is : (K : Sort) → isDirectory K ≡ true → K ≡ directory
-directory-is inactive e = absurd (false≢true e)
-directory-is directory e = refl
-directory-is improper e = absurd (false≢true e)
-directory-is (file h) e = absurd (false≢true e)
 
 -- A sum over the directories that are passed is no larger than that over the walk.
 module _ (n : ℕ) (v p : Bytes) (u w : ℕ → ℕ) (le : (s : ℕ) → sort v s ≡ directory → u s ≤ w s) where
