@@ -1,4 +1,4 @@
--- Lists gathered and summed. Assumes nothing.
+-- Lists gathered and summed, beside the laws of the model. Assumes nothing.
 use mathlib.Core.Path.{_≡_, refl, sym, ap, _∙_, fun-ext}
 use mathlib.Core.List.{List, [], _∷_, _++_, map, append-assoc, map-append}
 use Prim.Native.Nat.{ℕ, zero, suc, _+_, _-_, _≤_, _<_}
@@ -10,27 +10,12 @@ use lib.Dec.{leb, ltb}
 use Rattle.model.specs.Bytes.{sum, count, gather, run}
 use Rattle.model.specs.Sound.{outside}
 use Rattle.model.proofs.ByteLaws.{at-or-off}
-use Rattle.claims.proofs.TestLaws.{decide, none-off, is-same, is-other}
+use Rattle.model.proofs.BitLaws.{is-no}
+use Rattle.model.proofs.SumLaws.{run-in, run-has, run-most}
+pub use Rattle.model.proofs.SumLaws.{sum-append, sum-add, sum-gather, sum-ext as sum-same}
+use Rattle.claims.proofs.TestLaws.{decide, none-off}
 
 module _ {A : Type 0} (f : A → ℕ) where
-  pub sum-append : (xs ys : List A) → sum f (xs ++ ys) ≡ sum f xs + sum f ys
-  unfolding sum
-  sum-append [] ys = omega arith
-  sum-append (x ∷ xs) ys = omega (arith, sum-append xs ys)
-
-  pub sum-gather : {B : Type 0} (g : B → List A) (xs : List B) → sum f (gather g xs) ≡ sum (λ x. sum f (g x)) xs
-  unfolding sum gather
-  sum-gather g [] = refl
-  sum-gather g (x ∷ xs) = sum-append (g x) (gather g xs) ∙ ap (λ (k : ℕ). sum f (g x) + k) (sum-gather g xs)
-
-  pub sum-add : (g : A → ℕ) (xs : List A) → sum (λ x. f x + g x) xs ≡ sum f xs + sum g xs
-  unfolding sum
-  sum-add g [] = refl
-  sum-add g (x ∷ xs) = omega (arith, sum-add g xs)
-
-  pub sum-same : (g : A → ℕ) (xs : List A) → ((x : A) → f x ≡ g x) → sum f xs ≡ sum g xs
-  sum-same g xs h = ap (λ (k : A → ℕ). sum k xs) (fun-ext h)
-
   -- a sum is 0 where another is, if each part is
   pub sum-zero : (g : A → ℕ) (xs : List A) → ((x : A) → f x ≡ 0 → g x ≡ 0) → sum f xs ≡ 0 → sum g xs ≡ 0
   unfolding sum
@@ -70,24 +55,17 @@ module _ {A : Type 0} (f : ℕ → List A) (i : ℕ) where
 -- how often a number stands in a run, and what it is if it stands in a list of blocks of the volume
 module _ (b : ℕ) where
   pub count-out : (a c : ℕ) → (a ≤ b → b < a + c → ⊥) → count b (run a c) ≡ 0
-  unfolding sum run
-  count-out a zero h = refl
-  count-out a (suc c) h =
-      omega (arith, is-other b a (λ e. h (omega arith) (omega arith)), count-out (suc a) c (λ l m. h (omega arith) (omega arith)))
+  count-out a c h = at-or-off (count b (run a c)) 0 (λ e. e) (λ z. let r = run-in c a b (omega arith) in absurd (h (r .0) (r .1)))
 
   pub count-in : (a c : ℕ) → a ≤ b → b < a + c → count b (run a c) ≡ 1
-  unfolding sum run
-  count-in a zero l h = absurd (omega arith)
-  count-in a (suc c) l h =
-      at-or-off b a (λ e. omega (arith, is-same b a e, count-out (suc a) c (λ l m. omega arith)))
-      (λ o. omega (arith, is-other b a o, count-in (suc a) c (omega (arith, o)) (omega arith)))
+  count-in a c l h = omega (arith, run-has c a b l h, run-most c a b)
 
   pub off-volume : (n : ℕ) (bs : List ℕ) → outside n bs ≡ 0 → n ≤ b → count b bs ≡ 0
   unfolding sum
   off-volume n [] o l = refl
   off-volume n (x ∷ bs) o l =
       let h : x < n = leb-false n x (none-off (leb n x) (omega arith)) in
-      omega (arith, is-other b x (λ e. omega arith), off-volume n bs (omega arith) l)
+      omega (arith, is-no b x (λ e. omega arith), off-volume n bs (omega arith) l)
 
   pub on-volume : (n : ℕ) (bs : List ℕ) → outside n bs ≡ 0 → 1 ≤ count b bs → b < n
   on-volume n bs o c = decide (ltb b n) (ltb-true b n) (λ e. absurd (omega (arith, off-volume n bs o (ltb-false b n e))))

@@ -4,10 +4,11 @@ use mathlib.Core.Bool.{Bool, true, false, not, false≢true, Bool·beq}
 use mathlib.Core.Logic.{_↔_}
 use Prim.Native.Nat.{ℕ, suc, _+_, _≤_, _<_}
 use native.Mathlib.Omega.{arith}
-use borrow.Author.Tests.{eqb-true, eqb-false, ltb-true, ltb-false, eq-eqb, ne-eqb, lt-leb, le-leb}
+use borrow.Author.Tests.{eqb-true, eqb-false, ltb-true, ltb-false, eq-eqb, lt-leb, le-leb}
 use lib.Dec.{eqb, ltb, leb}
 use Rattle.model.specs.Bytes.{one-if, is, ne, unless, _and_, _or_}
 use Rattle.model.proofs.ByteLaws.{at-or-off}
+pub use Rattle.model.proofs.BitLaws.{is-yes as is-same}
 
 -- a test by its two values, with the equation
 pub decide : {P : Type 0} (t : Bool) → (t ≡ true → P) → (t ≡ false → P) → P
@@ -51,12 +52,6 @@ one-on false = (λ e. absurd (false≢true e), λ h. absurd (omega arith))
 pub none-off : (t : Bool) → one-if t ≡ 0 → t ≡ false
 none-off true e = absurd (omega arith)
 none-off false e = refl
-
-pub is-same : (a b : ℕ) → a ≡ b → is a b ≡ 1
-is-same a b h = rw (eq-eqb a b h)
-
-pub is-other : (a b : ℕ) → (a ≡ b → ⊥) → is a b ≡ 0
-is-other a b h = rw (ne-eqb a b h)
 
 pub ne-zero : (a b : ℕ) → ne a b ≡ 0 → a ≡ b
 ne-zero a b h = decide (eqb a b) (eqb-true a b) (λ e. let z : 1 ≡ 0 = rw e at h in absurd (omega arith))

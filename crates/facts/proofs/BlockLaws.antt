@@ -1,15 +1,15 @@
 -- The blocks of an entry that the walk of a sound volume meets lie on the volume.
 use Prim.Native.Nat.{ℕ, zero, suc, _+_, _-_, _*_, _≤_, _<_}
-use mathlib.Core.Path.{_≡_, refl, sym, ap, _∙_}
-use mathlib.Core.List.{List, [], _∷_, _++_, map}
+use mathlib.Core.Path.{_≡_, refl, ap}
+use mathlib.Core.List.{List, [], _∷_, _++_}
 use mathlib.Core.Bool.{Bool, true, false}
-use lib.Dec.{leb, ltb, eqb}
+use lib.Dec.{leb, eqb}
 use native.Mathlib.Omega.{arith}
-use borrow.Author.Tests.{eqb-true, eqb-false, ne-eqb, leb-true, leb-false}
+use borrow.Author.Tests.{eqb-true, eqb-false, ne-eqb, leb-false}
 use Rattle.model.specs.Bytes.{Bytes, sum, gather, run, is, one-if}
-use Rattle.model.specs.Directory.{volume, kids, Sort, inactive, directory, improper, file, sort, key, used, eof, chain}
-use Rattle.model.specs.File.{pointer, Node, node, limb, nodes, blocks, blocksOf, blocksIn, heightFor}
-use Rattle.model.specs.Sound.{outside, faults, faultsOf, directoryFaults, fileFaults, sound}
+use Rattle.model.specs.Directory.{volume, directory, file, sort, key, used, eof, chain}
+use Rattle.model.specs.File.{pointer, Node, limb, nodes, blocks, blocksOf, blocksIn, heightFor}
+use Rattle.model.specs.Sound.{outside, faultsOf, directoryFaults, fileFaults, sound}
 use Rattle.facts.specs.Reached.{Met, Inside, Deep}
 use Rattle.facts.proofs.MetLaws.{met-faults}
 

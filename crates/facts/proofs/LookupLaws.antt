@@ -1,16 +1,15 @@
 -- A path on a sound volume leads along slots that the walk meets.
-use Prim.Native.Nat.{ℕ, zero, suc, _+_, _≤_, _<_}
-use mathlib.Core.Path.{_≡_, refl, sym, ap, _∙_}
+use Prim.Native.Nat.{ℕ, zero, suc, _≤_}
+use mathlib.Core.Path.{_≡_, refl}
 use mathlib.Core.List.{List, [], _∷_}
 use mathlib.Core.Option.{Option, none, some}
 use mathlib.Core.Bool.{Bool, true, false}
-use lib.Dec.{eqb}
 use native.Mathlib.Omega.{arith}
-use borrow.Author.Tests.{eq-eqb}
 use Rattle.model.specs.Bytes.{Bytes, _and_}
 use Rattle.model.specs.Names.{Part, sameName}
-use Rattle.model.specs.Directory.{volume, kids, at, Sort, inactive, directory, improper, file, sort, isActive, isDirectory, seek, last, along, lookup, Target, noVolume, noDirectory, missing, there}
+use Rattle.model.specs.Directory.{volume, kids, at, directory, sort, isActive, isDirectory, seek, last, along, lookup, Target, noVolume, noDirectory}
 use Rattle.model.specs.Sound.{sound}
+use Rattle.model.proofs.Laws.Lookup.{directory-is}
 use Rattle.claims.proofs.TestLaws.{and-true}
 use Rattle.facts.specs.Reached.{Among, here, later, Met, top, down, Led, led-nowhere, led-astray, led-missing, led-there}
 use Rattle.facts.proofs.BlockLaws.{met-directory}
@@ -32,12 +31,6 @@ seek-active v p x (t ∷ ss) s e = go (isActive (sort v t) and sameName v (at t)
     go : (b : Bool) → isActive (sort v t) and sameName v (at t) p x ≡ b → elim b as (λ _. Option ℕ) [ true ↦ some t | false ↦ seek v p x ss ] ≡ some s → (seek v p x ss ≡ some s → isActive (sort v s) ≡ true) → isActive (sort v s) ≡ true
     go true h q r = let z : t ≡ s = cc in rw (← z) (and-true (isActive (sort v t)) (sameName v (at t) p x) .0 h .0)
     go false h q r = r q
-
-pub directory-sort : (K : Sort) → isDirectory K ≡ true → K ≡ directory
-directory-sort inactive e = let z : _≡_ {A = ℕ} 0 1 = cc in absurd (omega arith)
-directory-sort directory e = refl
-directory-sort improper e = let z : _≡_ {A = ℕ} 0 1 = cc in absurd (omega arith)
-directory-sort (file h) e = let z : _≡_ {A = ℕ} 0 1 = cc in absurd (omega arith)
 
 pub volume-directory : (v : Bytes) → sort v volume ≡ directory
 unfolding sort
@@ -61,7 +54,7 @@ along-led n v p l e d x [] h m o = go (seek v p x (kids v d)) refl
 along-led n v p l e d x (y ∷ r) h m o = go (seek v p x (kids v d)) refl (λ k s. along-led n v p k d s y r h)
   where
     step : (s : ℕ) → Among s (kids v d) → ((k s : ℕ) → Met v k d s → sort v s ≡ directory → Led v (along v p s (y ∷ r))) → (b : Bool) → isDirectory (sort v s) ≡ b → Led v (elim b as (λ _. Target) [ true ↦ along v p s (y ∷ r) | false ↦ noDirectory ])
-    step s a f true q = let k = met-kid n h m o a in f (k .0) s (k .1) (directory-sort (sort v s) q)
+    step s a f true q = let k = met-kid n h m o a in f (k .0) s (k .1) (directory-is (sort v s) q)
     step s a f false q = led-astray
 
     go : (t : Option ℕ) → seek v p x (kids v d) ≡ t → ((k s : ℕ) → Met v k d s → sort v s ≡ directory → Led v (along v p s (y ∷ r))) → Led v (elim t as (λ _. Target) [ none ↦ noDirectory | some s ↦ elim (isDirectory (sort v s)) [ true ↦ along v p s (y ∷ r) | false ↦ noDirectory ] ])

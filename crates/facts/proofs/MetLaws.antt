@@ -1,19 +1,16 @@
 -- Nothing is wrong with a slot that the walk of a sound volume meets.
-use Prim.Native.Nat.{ℕ, zero, suc, _+_, _-_, _*_, _≤_, _<_}
-use mathlib.Core.Path.{_≡_, refl, sym, ap, _∙_}
-use mathlib.Core.List.{List, [], _∷_, _++_, map}
-use mathlib.Core.Bool.{Bool, true, false}
-use lib.Dec.{leb, ltb, eqb}
+use Prim.Native.Nat.{ℕ, zero, suc, _+_, _-_, _≤_}
+use mathlib.Core.Path.{_≡_, refl}
+use mathlib.Core.List.{List, [], _∷_}
+use mathlib.Core.Bool.{true}
 use native.Mathlib.Omega.{arith}
-use borrow.Author.Tests.{eqb-true, leb-true, leb-false}
-use Rattle.model.specs.Bytes.{Bytes, sum, gather, one-if, _and_}
-use Rattle.model.specs.Directory.{volume, kids, Sort, inactive, directory, improper, file, sort, key, used, chain}
-use Rattle.model.specs.File.{blocks, blocksOf, nodes}
-use Rattle.model.specs.Walk.{levelMost, Visit, visit, walk, visits}
-use Rattle.model.specs.Sound.{outside, faults, faultsOf, faultless, directoryFaults, fileFaults, sound}
+use Rattle.model.specs.Bytes.{Bytes, sum, gather, _and_}
+use Rattle.model.specs.Directory.{volume, kids, directory}
+use Rattle.model.specs.Walk.{levelMost, Visit, visit, walk}
+use Rattle.model.specs.Sound.{faults, sound}
 use Rattle.claims.proofs.SoundFacts.{sound-facts}
-use Rattle.claims.proofs.SumLaws.{sum-append}
-use Rattle.facts.specs.Reached.{Among, here, later, Met, top, down, Inside}
+use Rattle.model.proofs.SumLaws.{sum-append}
+use Rattle.facts.specs.Reached.{Among, here, later, Met, top, down}
 
 -- the sum of a weight over the slots ss of a directory and all below them
 module _ (f : Visit ℕ → ℕ) (v : Bytes) where

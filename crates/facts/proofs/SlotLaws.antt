@@ -1,25 +1,23 @@
 -- The slots of a directory that the walk of a sound volume meets: each is proper, and none is the volume's own header.
-use Prim.Native.Nat.{ℕ, zero, suc, _+_, _-_, _*_, _/_, _%_, _≤_, _<_}
-use mathlib.Core.Path.{_≡_, refl, sym, ap, _∙_}
+use Prim.Native.Nat.{ℕ, suc, _+_, _-_, _*_, _/_, _≤_, _<_}
+use mathlib.Core.Path.{_≡_, refl}
 use mathlib.Core.List.{List, [], _∷_, _++_}
-use mathlib.Core.Bool.{Bool, true, false}
-use mathlib.Core.Logic.{⊎-elim}
-use lib.Dec.{eqb}
+use mathlib.Core.Bool.{true}
 use lib.ListN.{drop}
 use native.Mathlib.Omega.{arith}
-use borrow.Author.Tests.{eqb-true, eqb-false}
-use Rattle.model.specs.Bytes.{Bytes, sum, count, run, is, ne, one-if, gather}
-use Rattle.model.specs.Map.{mapBlocks, free}
-use Rattle.model.specs.Directory.{volume, volumeBlock, volumeChain, mapBlock, mapPlace, kids, Sort, inactive, directory, improper, file, sort, field, key, used, chain, slots, slotsBelow}
+use Rattle.model.specs.Bytes.{Bytes, sum, count, run, is, gather}
+use Rattle.model.specs.Map.{mapBlocks}
+use Rattle.model.specs.Directory.{volume, volumeBlock, volumeChain, mapBlock, kids, directory, improper, sort, key, used, chain, slots, slotsBelow}
 use Rattle.model.specs.File.{blocks, blocksOf}
 use Rattle.model.specs.Walk.{levelMost, Visit, visits}
-use Rattle.model.specs.Sound.{differ, volumeFaults, topFaults, directoryFaults, faults, faultsOf, owned, sound}
+use Rattle.model.specs.Sound.{differ, volumeFaults, topFaults, directoryFaults, faultsOf, owned, sound}
 use Rattle.claims.proofs.SoundFacts.{sound-facts}
-use Rattle.claims.proofs.SumLaws.{sum-gather, sum-append}
-use Rattle.claims.proofs.TestLaws.{ne-zero, is-same}
+use Rattle.model.proofs.BitLaws.{is-yes}
+use Rattle.model.proofs.SumLaws.{sum-gather, sum-append}
+use Rattle.claims.proofs.TestLaws.{ne-zero}
 use Rattle.facts.specs.Reached.{Among, here, later, Met, top, down}
 use Rattle.facts.proofs.MetLaws.{met-faults, below, first-zero, met-apart}
-use Rattle.facts.proofs.LookupLaws.{met-kid, volume-directory}
+use Rattle.facts.proofs.LookupLaws.{volume-directory}
 
 pub improper-fault : (n : ℕ) {l d s : ℕ} {v : Bytes} → sound n v ≡ true → Met v l d s → sort v s ≡ improper → ⊥
 unfolding faultsOf
@@ -44,7 +42,7 @@ among-drop s (x ∷ xs) a = later a
 pub among-block : (s : ℕ) (bs : List ℕ) → Among s (slots bs) → 1 ≤ count (s / 13) bs
 unfolding slots sum
 among-block s (b ∷ bs) a = among-append s (run (b * 13) 13) (slots bs) a
-    (λ m. let r = among-run s (b * 13) 13 m in let e : s / 13 ≡ b = omega arith in omega (arith, is-same (s / 13) b e))
+    (λ m. let r = among-run s (b * 13) 13 m in let e : s / 13 ≡ b = omega arith in omega (arith, is-yes (s / 13) b e))
     (λ m. omega (arith, among-block s bs m))
 
 -- a slot of a directory stands in one of its blocks

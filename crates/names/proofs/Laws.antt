@@ -4,29 +4,16 @@ use mathlib.Core.Bool.{Bool, true, false}
 use mathlib.Core.List.{[]}
 use Prim.Native.Nat.{ℕ, zero, suc, _+_, _-_, _≤_, _<_}
 use native.Mathlib.Omega.{arith}
-use borrow.Author.Tests.{eq-eqb, ne-eqb, le-leb, lt-leb, leb-true}
+use borrow.Author.Tests.{eq-eqb, ne-eqb, lt-leb}
 use Rattle.model.specs.Bytes.{Bytes, equalBytes, _and_, within}
 use Rattle.model.specs.Names.{slash, capital, nameByte, nameBytes, nameEnd, properParts}
+pub use Rattle.model.proofs.Laws.Spelling.{within-in}
 use Rattle.names.specs.Steps.{lastStart}
 
 and-false : (b : Bool) → b and false ≡ false
 unfolding _and_
 and-false true = refl
 and-false false = refl
-
-pub and-left : (a b : Bool) → a and b ≡ true → a ≡ true
-unfolding _and_
-and-left true b e = refl
-and-left false b e = e
-
-pub and-right : (a b : Bool) → a and b ≡ true → b ≡ true
-unfolding _and_
-and-right true b e = e
-and-right false b e = let z : _≡_ {A = ℕ} 0 1 = cc in absurd (let w : ⊥ = omega arith in w)
-
-pub within-in : (low high x : ℕ) → low ≤ x → x ≤ high → within low high x ≡ true
-unfolding within _and_
-within-in low high x p q = rw (le-leb low x p, le-leb x high q)
 
 pub within-below : (low high x : ℕ) → x < low → within low high x ≡ false
 unfolding within _and_
@@ -35,10 +22,6 @@ within-below low high x p = rw (lt-leb low x p)
 pub within-above : (low high x : ℕ) → high < x → within low high x ≡ false
 unfolding within _and_
 within-above low high x p = rw (lt-leb x high p, and-false)
-
-pub within-true : (low high x : ℕ) → within low high x ≡ true → (low ≤ x) × (x ≤ high)
-unfolding within
-within-true low high x e = (leb-true low x (and-left _ _ e), leb-true x high (and-right _ _ e))
 
 pub capital-small : (c : ℕ) → within 97 122 c ≡ true → capital c ≡ c - 32
 unfolding capital
