@@ -6,9 +6,9 @@ use Prim.Native.Nat.{ℕ, suc, _+_, _≤_, _<_}
 use native.Mathlib.Omega.{arith}
 use borrow.Author.Tests.{eqb-true, eqb-false, ltb-true, ltb-false, eq-eqb, lt-leb, le-leb}
 use lib.Dec.{eqb, ltb, leb}
-use Rattle.model.specs.Bytes.{one-if, is, ne, unless, _and_, _or_}
+use Rattle.model.specs.Bytes.{one-if, ne, unless, _and_, _or_}
 use Rattle.model.proofs.ByteLaws.{at-or-off}
-pub use Rattle.model.proofs.BitLaws.{is-yes as is-same}
+pub use Rattle.model.proofs.BitLaws.{one-most, is-yes as is-same}
 
 -- a test by its two values, with the equation
 pub decide : {P : Type 0} (t : Bool) → (t ≡ true → P) → (t ≡ false → P) → P
@@ -40,10 +40,6 @@ pub or-one : (a b : Bool) → (a ≡ true → b ≡ true → ⊥) → one-if (a 
 unfolding _or_
 or-one true b f = rw (refuted b (f refl))
 or-one false b f = omega arith
-
-pub one-most : (t : Bool) → one-if t ≤ 1
-one-most true = omega arith
-one-most false = omega arith
 
 pub one-on : (t : Bool) → (t ≡ true) ↔ (1 ≤ one-if t)
 one-on true = (λ e. omega arith, λ h. refl)

@@ -11,11 +11,12 @@ use native.Mathlib.Omega.{arith}
 use borrow.Author.Tests.{eqb-true, eqb-false}
 use Rattle.model.specs.Bytes.{Bytes, run}
 use Rattle.model.specs.Names.{Part, sameName}
-use Rattle.model.specs.Directory.{place, at, blockOf, volume, Sort, inactive, directory, improper, file, sort, isActive, isDirectory, key, used, slots, kids, vacant, seek, Target, noVolume, noDirectory, missing, there, last, along, lookup}
+use Rattle.model.specs.Directory.{place, at, blockOf, volume, sort, isActive, isDirectory, key, used, slots, kids, vacant, seek, Target, noVolume, noDirectory, missing, there, last, along, lookup}
 use Rattle.model.specs.Calls.{isThere, spot}
 use Rattle.model.specs.declared.Entry.{Entry}
 use Rattle.model.specs.declared.Place.{Place}
 use Rattle.model.specs.declared.Found.the-variants as found
+use Rattle.model.proofs.Laws.Lookup.{directory-is}
 use Rattle.directory.specs.Slots.{placeNumber, placeOf, Counted, entryOf}
 use Rattle.directory.specs.Search.{Each, Searchable, listed, foundAt, vacancyAt}
 use Rattle.directory.specs.Lookup.{Reached, top, below, Sane, homeOf, lookedAs}
@@ -204,12 +205,6 @@ lands-there v d s r m =
           subst (λ (x : ℕ). List·Memᴰ b (kids v x)) q (subst (λ (x : ℕ). List·Memᴰ x (kids v d)) w (m (λ k. n (sym w ∙ k))));
     }
 
-is-directory : (t : Sort) → isDirectory t ≡ true → t ≡ directory
-is-directory inactive e = never (cc)
-is-directory improper e = never (cc)
-is-directory directory e = refl
-is-directory (file h) e = never (cc)
-
 module _ (v p : Bytes) where
   lands-last : (d : ℕ) → Reached v d → (x : Part) (o : Option ℕ) → seek v p x (kids v d) ≡ o → Lands v (last o d)
   unfolding last
@@ -219,7 +214,7 @@ module _ (v p : Bytes) where
   module _ (d : ℕ) (r : Reached v d) (x y : Part) (ys : List Part) (on : (s : ℕ) → Reached v s → Lands v (along v p s (y ∷ ys))) where
     lands-entry : (s : ℕ) → seek v p x (kids v d) ≡ some s → (b : Bool) → isDirectory (sort v s) ≡ b
         → Lands v (elim b [ true ↦ along v p s (y ∷ ys) | false ↦ noDirectory ])
-    lands-entry s e true i = on s (below r (seek-some v p x (kids v d) s e .0) (is-directory (sort v s) i))
+    lands-entry s e true i = on s (below r (seek-some v p x (kids v d) s e .0) (directory-is (sort v s) i))
     lands-entry s e false i = lands-nowhere v .1
 
     lands-beyond : (o : Option ℕ) → seek v p x (kids v d) ≡ o

@@ -16,8 +16,7 @@ use Rattle.names.specs.declared.Cursor.{Cursor}
 use Rattle.names.specs.Steps.{partsLeft, stepAt, stepEnd}
 use Rattle.names.specs.declared.Step.{Step}
 use Rattle.names.specs.declared.Step.the-variants.{Name, End, Bad}
-use Rattle.model.proofs.TestLaws.{and-left, and-right}
-use Rattle.model.proofs.Laws.Spelling.{within-is}
+use Rattle.names.proofs.Laws.{and-left, and-right, within-true}
 use Rattle.names.proofs.CursorLaws.{Stepped, stepped-bounds, stepped-left, stepped-proper, left-done, left-more, left-name, left-start}
 use Rattle.names.proofs.PartLaws.{same-at}
 use Rattle.directory.specs.Slots.{placeNumber, placeOf, kindOf, entryOf}
@@ -239,7 +238,7 @@ sane-blocks n v sane = sane volume top .inside 2 (List·Memᴰ·head refl)
 
 pub path-before : (xs : List ℕ) → properPath (view xs) (length xs) ≡ true → 0 < length xs
 unfolding properPath
-path-before xs h = within-is 1 64 (length xs) (and-left _ _ h) .0
+path-before xs h = within-true 1 64 (length xs) (and-left _ _ h) .0
 
 pub path-proper : (xs : List ℕ) → properPath (view xs) (length xs) ≡ true → properParts (view xs) (partsLeft (view xs) (length xs) 0) ≡ true
 unfolding properPath

@@ -13,6 +13,7 @@ use Rattle.model.specs.Directory.{place, at, next, sort, isActive, chain, slots
 use Rattle.model.specs.declared.Entry.{Entry}
 use Rattle.model.specs.declared.Place.{Place}
 use Rattle.model.specs.declared.Found.the-variants as found
+use Rattle.model.proofs.TestLaws.{and-off}
 use Rattle.directory.specs.Slots.{placeNumber, placeOf, Counted, entryOf, slotSays}
 use Rattle.directory.specs.declared.Slot.the-variants.{Active}
 use Rattle.directory.specs.Search.{Each, Readable, Searchable, slotsFrom, foundAt, vacancyAt}
@@ -58,11 +59,6 @@ module _ (v p : Bytes) (x : Part) where
   unfolding seek orElse
   seek-append [] ys = refl
   seek-append (s ∷ ss) ys = seek-by s ss ys (isActive (sort v s) and sameName v (at s) p x) refl (seek-append ss ys)
-
-pub and-false : (b : Bool) → (b and false) ≡ false
-unfolding _and_
-and-false true = refl
-and-false false = refl
 
 pub false-and : (b : Bool) → (false and b) ≡ false
 unfolding _and_
@@ -141,7 +137,7 @@ module _ (v p : Bytes) (x : Part) (l : Place) where
   found-past h = sym (ap (foundAt v) (seek-past v p x (placeNumber l) [] h))
 
   pub found-other : sameName v (at (placeNumber l)) p x ≡ false → found.Missing ≡ foundAt v (seek v p x (placeNumber l ∷ []))
-  found-other m = found-past (rw m (and-false (isActive (sort v (placeNumber l)))))
+  found-other m = found-past (rw m (and-off (isActive (sort v (placeNumber l)))))
 
   pub found-inactive : isActive (sort v (placeNumber l)) ≡ false → found.Missing ≡ foundAt v (seek v p x (placeNumber l ∷ []))
   found-inactive a = found-past (rw a (false-and (sameName v (at (placeNumber l)) p x)))

@@ -7,9 +7,10 @@ use lib.Dec.{leb, eqb}
 use native.Mathlib.Omega.{arith}
 use borrow.Author.Tests.{eqb-true, eqb-false, ne-eqb, leb-false}
 use Rattle.model.specs.Bytes.{Bytes, sum, gather, run, is, one-if}
-use Rattle.model.specs.Directory.{volume, directory, file, sort, key, used, eof, chain}
+use Rattle.model.specs.Directory.{directory, file, sort, key, used, eof, chain}
 use Rattle.model.specs.File.{pointer, Node, limb, nodes, blocks, blocksOf, blocksIn, heightFor}
 use Rattle.model.specs.Sound.{outside, faultsOf, directoryFaults, fileFaults, sound}
+use Rattle.model.proofs.Laws.Facts.{pos}
 use Rattle.facts.specs.Reached.{Met, Inside, Deep}
 use Rattle.facts.proofs.MetLaws.{met-faults}
 
@@ -62,18 +63,14 @@ pub record DirectoryFacts (n : ℕ) (v : Bytes) (l s : ℕ) : Type 0 where
   pub some : 1 ≤ used v s
   pub chained : Inside n (chain v (key v s) (used v s))
 
-nonzero : (l : ℕ) → is l 0 ≡ 0 → 1 ≤ l
-nonzero zero h = absurd (omega arith)
-nonzero (suc l) h = omega arith
-
 pub met-directory : {n l d s : ℕ} {v : Bytes} → sound n v ≡ true → Met v l d s → sort v s ≡ directory → DirectoryFacts n v l s
 unfolding faultsOf directoryFaults blocksOf
 met-directory {n} {l} {d} {s} {v} h m e =
     let f : faultsOf directory n v l d s ≡ 0 = rw e at (met-faults n v h m) in
     let o : outside n (blocks v s) ≡ 0 = omega arith in
     record {
-      level = nonzero l (omega arith);
-      some = nonzero (used v s) (omega arith);
+      level = pos l (omega arith);
+      some = pos (used v s) (omega arith);
       chained = inside n (chain v (key v s) (used v s)) (rw e at o);
     }
 

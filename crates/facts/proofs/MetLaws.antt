@@ -4,8 +4,8 @@ use mathlib.Core.Path.{_≡_, refl}
 use mathlib.Core.List.{List, [], _∷_}
 use mathlib.Core.Bool.{true}
 use native.Mathlib.Omega.{arith}
-use Rattle.model.specs.Bytes.{Bytes, sum, gather, _and_}
-use Rattle.model.specs.Directory.{volume, kids, directory}
+use Rattle.model.specs.Bytes.{Bytes, sum, gather}
+use Rattle.model.specs.Directory.{volume, kids}
 use Rattle.model.specs.Walk.{levelMost, Visit, visit, walk}
 use Rattle.model.specs.Sound.{faults, sound}
 use Rattle.claims.proofs.SoundFacts.{sound-facts}

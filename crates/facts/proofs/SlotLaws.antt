@@ -10,11 +10,11 @@ use Rattle.model.specs.Map.{mapBlocks}
 use Rattle.model.specs.Directory.{volume, volumeBlock, volumeChain, mapBlock, kids, directory, improper, sort, key, used, chain, slots, slotsBelow}
 use Rattle.model.specs.File.{blocks, blocksOf}
 use Rattle.model.specs.Walk.{levelMost, Visit, visits}
-use Rattle.model.specs.Sound.{differ, volumeFaults, topFaults, directoryFaults, faultsOf, owned, sound}
+use Rattle.model.specs.Sound.{volumeFaults, topFaults, directoryFaults, faultsOf, owned, sound}
 use Rattle.claims.proofs.SoundFacts.{sound-facts}
 use Rattle.model.proofs.BitLaws.{is-yes}
+use Rattle.model.proofs.Laws.Sound.{differ-none}
 use Rattle.model.proofs.SumLaws.{sum-gather, sum-append}
-use Rattle.claims.proofs.TestLaws.{ne-zero}
 use Rattle.facts.specs.Reached.{Among, here, later, Met, top, down}
 use Rattle.facts.proofs.MetLaws.{met-faults, below, first-zero, met-apart}
 use Rattle.facts.proofs.LookupLaws.{volume-directory}
@@ -51,18 +51,11 @@ unfolding slotsBelow blocksOf
 kid-block v d s e a = rw e (among-block s (chain v (key v d) (used v d)) (among-drop s (slots (chain v (key v d) (used v d))) (rw e at a)))
 
 -- the volume directory of a sound volume is blocks 2, 3, 4, 5
-differ-same : (xs ys : List ℕ) → differ xs ys ≡ 0 → xs ≡ ys
-unfolding differ
-differ-same [] [] e = refl
-differ-same [] (y ∷ ys) e = absurd (omega arith)
-differ-same (x ∷ xs) [] e = absurd (omega arith)
-differ-same (x ∷ xs) (y ∷ ys) e = rw (ne-zero x y (omega arith), differ-same xs ys (omega arith)) refl
-
 pub volume-chain : (n : ℕ) (v : Bytes) → sound n v ≡ true → chain v (key v volume) (used v volume) ≡ volumeChain
 unfolding faultsOf directoryFaults topFaults volumeFaults
 volume-chain n v h =
     let f : faultsOf directory n v (suc levelMost) volume volume ≡ 0 = rw volume-directory at (met-faults n v h top) in
-    differ-same _ volumeChain (omega arith)
+    differ-none _ volumeChain (omega arith)
 
 owns : ℕ → Bytes → Visit ℕ → ℕ
 owns b v w = count b (blocks v (w .slot))

@@ -491,7 +491,7 @@ fresh-no a n b h = go (leb a b) refl (ltb b n) refl
     go true p false q = refl
     go false p u q = refl
 
-one-most : (t : Bool) → one-if t ≤ 1
+pub one-most : (t : Bool) → one-if t ≤ 1
 one-most true = omega arith
 one-most false = omega arith
 

@@ -16,3 +16,8 @@ and-right false q e = absurd (false≢true e)
 pub and-both : (p q : Bool) → p ≡ true → q ≡ true → (p and q) ≡ true
 unfolding _and_
 and-both p q e f = rw (e, f) refl
+
+pub and-off : (p : Bool) → (p and false) ≡ false
+unfolding _and_
+and-off true = refl
+and-off false = refl

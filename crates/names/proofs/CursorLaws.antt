@@ -12,9 +12,8 @@ use Rattle.model.specs.Names.{slash, nameMost, pathMost, nameEnd, properName, P
 use Rattle.names.specs.declared.Cursor.{Cursor}
 use Rattle.names.specs.declared.Step.the-variants.{Name, End, Bad}
 use Rattle.names.specs.Steps.{found, stepEnd, properStep, stepAt, partsLeft, lastPart, lastStart}
-use Rattle.model.proofs.TestLaws.{and-left, and-right}
-use Rattle.model.proofs.Laws.Spelling.{within-is}
-use Rattle.names.proofs.Laws.{end-here, end-more, end-none, last-here, last-more}
+pub use Rattle.model.proofs.Laws.Lookup.{name-some as name-size}
+use Rattle.names.proofs.Laws.{and-left, and-right, within-true, end-here, end-more, end-none, last-here, last-more}
 
 never : {A : Type 0} → true ≡ false → A
 never e = let z : _≡_ {A = ℕ} 0 1 = cc in absurd (let w : ⊥ = omega arith in w)
@@ -157,10 +156,6 @@ module _ (p : Bytes) (n : ℕ) where
       rw (e, parts-more p n a (n - (a + 1)) h, f)
 
 -- what a proper name, a proper step and a proper list of parts are made of
-pub name-size : (p : Bytes) (a k : ℕ) → properName p a k ≡ true → (1 ≤ k) × (k ≤ nameMost)
-unfolding properName
-name-size p a k e = within-is 1 nameMost k (and-left _ _ e)
-
 module _ (p : Bytes) (n a : ℕ) (h : properStep p n a ≡ true) where
   pub step-slash : p a ≡ slash
   unfolding properStep
@@ -329,7 +324,7 @@ last-proper p x (y ∷ ys) h g = last-proper p y ys (proper-head p y ys g .1) (p
 module _ (p : Bytes) (n : ℕ) (proper : properPath p n ≡ true) where
   pub path-size : (1 ≤ n) × (n ≤ pathMost)
   unfolding properPath
-  path-size = within-is 1 pathMost n (and-left _ _ proper)
+  path-size = within-true 1 pathMost n (and-left _ _ proper)
 
   pub path-parts : properParts p (parts p n) ≡ true
   unfolding properPath

@@ -1,19 +1,16 @@
 -- One step of each test on a run of bytes, for the loops that make it. Assumes nothing.
 use mathlib.Core.Path.{_≡_, refl}
-use mathlib.Core.Bool.{Bool, true, false}
+use mathlib.Core.Bool.{true, false}
 use mathlib.Core.List.{[]}
 use Prim.Native.Nat.{ℕ, zero, suc, _+_, _-_, _≤_, _<_}
 use native.Mathlib.Omega.{arith}
 use borrow.Author.Tests.{eq-eqb, ne-eqb, lt-leb}
 use Rattle.model.specs.Bytes.{Bytes, equalBytes, _and_, within}
-use Rattle.model.specs.Names.{slash, capital, nameByte, nameBytes, nameEnd, properParts}
-pub use Rattle.model.proofs.Laws.Spelling.{within-in}
+use Rattle.model.specs.Names.{slash, nameByte, nameBytes, nameEnd, properParts}
+use Rattle.model.proofs.TestLaws.{and-off}
+pub use Rattle.model.proofs.TestLaws.{and-left, and-right}
+pub use Rattle.model.proofs.Laws.Spelling.{within-in, within-is as within-true, capital-small, capital-other}
 use Rattle.names.specs.Steps.{lastStart}
-
-and-false : (b : Bool) → b and false ≡ false
-unfolding _and_
-and-false true = refl
-and-false false = refl
 
 pub within-below : (low high x : ℕ) → x < low → within low high x ≡ false
 unfolding within _and_
@@ -21,15 +18,7 @@ within-below low high x p = rw (lt-leb low x p)
 
 pub within-above : (low high x : ℕ) → high < x → within low high x ≡ false
 unfolding within _and_
-within-above low high x p = rw (lt-leb x high p, and-false)
-
-pub capital-small : (c : ℕ) → within 97 122 c ≡ true → capital c ≡ c - 32
-unfolding capital
-capital-small c e = rw (e, capital)
-
-pub capital-other : (c : ℕ) → within 97 122 c ≡ false → capital c ≡ c
-unfolding capital
-capital-other c e = rw (e, capital)
+within-above low high x p = rw (lt-leb x high p, and-off)
 
 module _ (p : Bytes) (a : ℕ) where
   pub bytes-more : (k m : ℕ) → k ≡ suc m → nameByte (p a) ≡ true → nameBytes p a k ≡ nameBytes p (a + 1) m

@@ -4,7 +4,7 @@ use Prim.Native.Nat.{ℕ}
 use mathlib.Core.Path.{_≡_, refl, sym, _∙_}
 use mathlib.Core.List.{List, _∷_}
 use mathlib.Core.Bool.{true}
-use Rattle.model.specs.Bytes.{Bytes, Octets, count, _and_}
+use Rattle.model.specs.Bytes.{Bytes, Octets, count}
 use Rattle.model.specs.Names.{part, capitals, properName}
 use Rattle.model.specs.Directory.{sort, file, at, volume}
 use Rattle.model.specs.Sound.{sound}

@@ -7,16 +7,15 @@ use lib.Dec.{eqb}
 use native.Mathlib.Omega.{arith}
 use borrow.Author.Tests.{eqb-true, eq-eqb, ne-eqb}
 use Rattle.model.specs.Bytes.{Bytes, sum, count, is}
-use Rattle.model.specs.Directory.{directory, sort, isActive, at, volume, volumeBlock, kids}
+use Rattle.model.specs.Directory.{sort, isActive, at, volume, volumeBlock, kids}
 use Rattle.model.specs.Catalog.{nameText}
 use Rattle.model.proofs.ByteLaws.{at-or-off}
 use Rattle.model.proofs.SumLaws.{is-self}
-use Rattle.model.proofs.Laws.Frame.{Named}
 use Rattle.model.proofs.Laws.Sound.{Sound}
-use Rattle.model.proofs.Laws.Keep.{Head, head-name, kids-same}
+use Rattle.model.proofs.Laws.Keep.{head-name, kids-same}
 use Rattle.model.proofs.Laws.Facts.{Seen, kid-seen, parent-directory, volume-seen}
 use Rattle.model.proofs.Laws.One.{Step, one-volume, one-keeps, one-entry}
-use Rattle.model.proofs.Laws.Near.{named-near}
+use Rattle.model.proofs.Laws.Near.{Near, named-near}
 use Rattle.model.proofs.Laws.Paths.{SameNames}
 use Rattle.paths.specs.Ways.{Way, stored, path, replaced, WaysStay}
 use Rattle.paths.proofs.TextLaws.{near-text}
@@ -45,9 +44,8 @@ pub stay : {n : ℕ} {v w : Bytes} → Sound n v → Carries v w (λ _. ⊥) (na
 stay S C xs s way = carried-path S C xs s way (λ y c e. e)
 
 -- Where one entry a of a directory d changes, and what is asked of a itself.
-volume-name : (v v′ : Bytes) → Head v v′ volumeBlock → Named v v′ (at volume)
-unfolding at
-volume-name v v′ h = head-name v v′ volumeBlock h
+pub step-top : {n : ℕ} {v v′ : Bytes} {a d : ℕ} → Step n v v′ a d → Near v v′ (at volume)
+step-top {v = v} {v′} T = named-near (unfold at in head-name v v′ volumeBlock (one-volume T))
 
 module _ {n : ℕ} {v v′ : Bytes} {a d : ℕ} {gone : ℕ → Type 0} {f : ℕ → List ℕ} (T : Step n v v′ a d)
     (below : (y : ℕ) → 1 ≤ count y (kids v a) → isActive (sort v y) ≡ true → 1 ≤ count y (kids v′ a))
@@ -57,7 +55,7 @@ module _ {n : ℕ} {v v′ : Bytes} {a d : ℕ} {gone : ℕ → Type 0} {f : ℕ
   step-carries =
       record {
         entry = λ x y h c e g. (inside x y h c e, still x y h c e g .0, still x y h c e g .1);
-        top = near-text volume (named-near (volume-name v v′ (one-volume T))) ∙ sym (named volume (λ e. T .spot .proper (sym e)));
+        top = near-text volume (step-top T) ∙ sym (named volume (λ e. T .spot .proper (sym e)));
       }
     where
       inside : (x y : ℕ) → Seen v x → 1 ≤ count y (kids v x) → isActive (sort v y) ≡ true → 1 ≤ count y (kids v′ x)

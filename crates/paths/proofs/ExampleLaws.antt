@@ -28,6 +28,7 @@ use Rattle.paths.proofs.WayLaws.{one-way, way-seen}
 use Rattle.paths.proofs.CallLaws.{rename-holds, set-info-holds}
 use Rattle.paths.proofs.KeptLaws.{create-path, destroy-path, set-info-path, write-path, set-eof-path, rename-path, rename-new-path, calls-path, namesAfter, names-renamed, allNamesAfter, calls-new-path, calls-file}
 
+-- Names and paths as bytes.
 abbrev week : List ℕ
 week = 87 ∷ 69 ∷ 69 ∷ 75 ∷ []
 

@@ -6,8 +6,8 @@ use mathlib.Core.Bool.{true, false≢true}
 use lib.ListN.{length}
 use Rattle.model.specs.Bytes.{Bytes, Octets}
 use Rattle.model.specs.Names.{Part, parts, sameName}
-use Rattle.model.specs.Map.{free, room}
-use Rattle.model.specs.Directory.{inactive, sort, isActive, at, volume, mapPlace, kids, missing, there, lookup}
+use Rattle.model.specs.Map.{room}
+use Rattle.model.specs.Directory.{inactive, sort, isActive, at, mapPlace, kids, missing, there, lookup}
 use Rattle.model.specs.File.{blocks}
 use Rattle.model.specs.Refusals.{settle}
 use Rattle.model.specs.Calls.{total, target, home, spot, lastPart, nothing}
@@ -31,7 +31,7 @@ module _ {n : ℕ} {v : Bytes} {a d : ℕ} (D : Destroys n v a d) where
   gone = destroyed mapPlace v d a
 
   gone-room : room mapPlace gone n ≡ room mapPlace v n + length (blocks v a)
-  gone-room = room-list mapPlace n v gone (blocks v a) (low D) (gone-free D)
+  gone-room = room-list n v gone (blocks v a) (low D) (gone-free D)
 
   -- the name, and every other spelling of the path
   gone-missing : {p q : Bytes} {y : Part} (ps qs : List Part) → isActive (sort v a) ≡ true → sameName v (at a) p y ≡ true → Reaches v p ps d y → SameNames p q ps qs

@@ -7,20 +7,20 @@ use mathlib.Core.Option.{some}
 use mathlib.Core.Bool.{true, false}
 use lib.ListN.{length}
 use native.Mathlib.Omega.{arith}
-use Rattle.model.specs.Bytes.{Bytes, count, _and_}
+use Rattle.model.specs.Bytes.{Bytes, count}
 use Rattle.model.specs.Names.{Part, part, parts, properName, sameName}
-use Rattle.model.specs.Directory.{Sort, inactive, directory, improper, file, sort, isActive, isDirectory, at, volume, volumeBlock, kids, seek, Target, noDirectory, missing, there, along, lookup}
+use Rattle.model.specs.Directory.{Sort, inactive, directory, improper, file, sort, isActive, isDirectory, at, volume, kids, seek, Target, noDirectory, missing, there, along, lookup}
 use Rattle.model.specs.Refusals.{settle}
-use Rattle.model.specs.Calls.{total, target, home, spot, lastPart, nothing}
+use Rattle.model.specs.Calls.{total, target, home, spot, lastPart}
 use Rattle.model.specs.Rename.{renamed, isOther, renameNumber, rename}
 use Rattle.model.proofs.ByteLaws.{at-or-off}
 use Rattle.model.proofs.BitLaws.{is-no}
-use Rattle.model.proofs.Laws.Near.{Near, named-near}
+use Rattle.model.proofs.Laws.Near.{named-near}
 use Rattle.model.proofs.TestLaws.{and-right}
 use Rattle.model.proofs.Laws.Sound.{Sound, sound-facts}
-use Rattle.model.proofs.Laws.Keep.{head-name, kids-same}
+use Rattle.model.proofs.Laws.Keep.{kids-same}
 use Rattle.model.proofs.Laws.Facts.{Seen, kid-seen, volume-seen, volume-directory}
-use Rattle.model.proofs.Laws.One.{Place, Step, one-volume, one-keeps, one-entry}
+use Rattle.model.proofs.Laws.One.{Place, Step, one-keeps, one-entry}
 use Rattle.model.proofs.Laws.Spelling.{Bears, same-bears, bears-same}
 use Rattle.model.proofs.Laws.Relabel.{Relabels, marks-step, relabel-keeps, relabel-sound}
 use Rattle.model.proofs.Laws.Lookup.{rows-off, not-false, entry-led, target-led, seek-some}
@@ -28,6 +28,7 @@ use Rattle.model.proofs.Laws.Twice.{passed}
 use Rattle.model.proofs.Laws.Rename.{entry-bears, now-relabels, open-name}
 use Rattle.paths.specs.Ways.{Way, WayStays}
 use Rattle.paths.proofs.PathLaws.{seek-one, path-spells, spells-passed}
+use Rattle.paths.proofs.CarryLaws.{step-top}
 use Rattle.paths.proofs.CallLaws.{rename-image, rename-stays}
 use Rattle.paths.proofs.KeptLaws.{rename-path}
 use Rattle.theorems.proofs.Spelled.{Spelled, spelled-sym, spelled-trans, spelled-bears, bears-spelled, Names, SameNames, names-self, none-left, one-more}
@@ -62,9 +63,6 @@ module _ {n : ℕ} {v : Bytes} {a d : ℕ} (q : Bytes) (j : ℕ) (S : Sound n v)
 
   now-sort : sort now a ≡ sort v a
   now-sort = labels .sorted
-
-  now-top : Near v now (at volume)
-  now-top = named-near (unfold at in head-name v now volumeBlock (one-volume now-step))
 
   module _ {p : Bytes} {ps : List Part} {y : Part} (R : Reaches v p ps d y) (o : Bytes) (os : List Part)
       (stays : (xs : List ℕ) → Way v volume xs d → WayStays v now xs d) where
@@ -149,7 +147,7 @@ module _ {n : ℕ} {v : Bytes} {a d : ℕ} (q : Bytes) (j : ℕ) (S : Sound n v)
     unfolding lookup
     now-through A (reached {x} {x′} {xs = xs} m W) (on-the-way {y = z} {y′ = z′} E F T) =
         let old : sameName v (at volume) o z ≡ true = bears-same v (at volume) o z (spelled-bears E (same-bears v (at volume) p x m)) in
-        let new : sameName now (at volume) o′ z′ ≡ true = near-same now-top (spelled-trans E F) m in
+        let new : sameName now (at volume) o′ z′ ≡ true = near-same (step-top now-step) (spelled-trans E F) m in
         let i : suc (length (x ∷ x′ ∷ xs) - 2) ≡ 0 + length (x′ ∷ xs) = omega arith in
         rw (old, new, lookup)
         (through-same {k = 0} (start refl) (volume-directory S) (volume-seen now-sound) (volume-directory now-sound) (rw i at A) W T)

@@ -98,7 +98,7 @@ is-outside n b s h = go (eqb b s) refl
     go true e = rw (le-leb n s (omega (arith, eqb-true b s e))) (omega arith)
     go false e = omega arith
 
-pos : (u : ℕ) → is u 0 ≡ 0 → 1 ≤ u
+pub pos : (u : ℕ) → is u 0 ≡ 0 → 1 ≤ u
 pos zero p = absurd (omega arith)
 pos (suc u) p = omega arith
 

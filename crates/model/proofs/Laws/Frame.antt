@@ -259,7 +259,7 @@ fileByte-same v v′ h k f = fun-ext (λ i. go i (dataBlock v′ h k (i / 512)) 
 abbrev pub Named : Bytes → Bytes → ℕ → Type 0
 Named v v′ a = (i : ℕ) → i < 16 → v′ (a + i) ≡ v (a + i)
 
-nameBytes-same : (v v′ : Bytes) (a k : ℕ) → ((i : ℕ) → i < k → v′ (a + i) ≡ v (a + i)) → nameBytes v′ a k ≡ nameBytes v a k
+pub nameBytes-same : (v v′ : Bytes) (a k : ℕ) → ((i : ℕ) → i < k → v′ (a + i) ≡ v (a + i)) → nameBytes v′ a k ≡ nameBytes v a k
 unfolding nameBytes
 nameBytes-same v v′ a zero f = refl
 nameBytes-same v v′ a (suc k) f =

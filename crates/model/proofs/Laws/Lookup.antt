@@ -177,7 +177,7 @@ proper-first p x xs e = go (eqb (p (x .start - 1)) slash and properName p (x .st
     go true f g = (and-right _ _ f, g)
     go false f g = absurd (false≢true g)
 
-name-some : (p : Bytes) (a k : ℕ) → properName p a k ≡ true → (1 ≤ k) × (k ≤ nameMost)
+pub name-some : (p : Bytes) (a k : ℕ) → properName p a k ≡ true → (1 ≤ k) × (k ≤ nameMost)
 unfolding properName
 name-some p a k e = within-is 1 nameMost k (and-left _ _ e)
 

@@ -1,18 +1,18 @@
 -- Names whose first byte may change in its high half, the kind: the name stays.
-use Prim.Native.Nat.{ℕ, zero, suc, _+_, _≤_, _<_, _%_}
+use Prim.Native.Nat.{ℕ, _+_, _≤_, _<_, _%_}
 use mathlib.Core.Path.{_≡_, refl, ap}
 use mathlib.Core.List.{List, [], _∷_}
 use mathlib.Core.Bool.{true, false}
 use native.Mathlib.Omega.{arith}
 use native.Mathlib.Nat.{add-zero, add-assoc}
 use Rattle.model.specs.Bytes.{Bytes, sum, count, _and_}
-use Rattle.model.specs.Names.{nameByte, nameBytes, properName, capital, capitals, capitalName, alike, Part, sameName}
+use Rattle.model.specs.Names.{properName, capital, capitals, capitalName, alike, Part, sameName}
 use Rattle.model.specs.Directory.{at, sort, isActive}
 use Rattle.model.specs.Sound.{twinsOf, twins}
 use borrow.Author.Tests.{ne-eqb}
 use Rattle.model.proofs.ByteLaws.{at-or-off, equal-cong}
 use Rattle.model.proofs.SumLaws.{is-self}
-use Rattle.model.proofs.Laws.Frame.{Named}
+use Rattle.model.proofs.Laws.Frame.{Named, nameBytes-same}
 
 pub record Near (v v′ : Bytes) (a : ℕ) : Type 0 where
   pub sized : v′ a % 16 ≡ v a % 16
@@ -23,14 +23,6 @@ named-near {v} {v′} {a} f =
     let z : v′ a ≡ v a = rw add-zero at (f 0 (omega arith)) in
     record { sized = rw z refl; rest = λ i l. rw (add-assoc a 1 i) (f (1 + i) (omega arith)) }
 
-bytes-near : (v v′ : Bytes) (a k : ℕ) → ((i : ℕ) → i < k → v′ (a + i) ≡ v (a + i)) → nameBytes v′ a k ≡ nameBytes v a k
-unfolding nameBytes
-bytes-near v v′ a zero f = refl
-bytes-near v v′ a (suc k) f =
-    let h : v′ a ≡ v a = rw add-zero at (f 0 (omega arith)) in
-    let r = bytes-near v v′ (a + 1) k (λ i l. rw (add-assoc a 1 i) (f (1 + i) (omega arith))) in
-    λ i. elim (nameByte (h i)) [ true ↦ r i | false ↦ false ]
-
 pub capital-near : {v v′ : Bytes} {a : ℕ} → Near v v′ a → capitalName v′ a ≡ capitalName v a
 unfolding capitalName properName
 capital-near {v} {v′} {a} N =
@@ -40,7 +32,7 @@ capital-near {v} {v′} {a} N =
     rw (
       N .sized,
       z,
-      bytes-near v v′ (a + 1) k g,
+      nameBytes-same v v′ (a + 1) k g,
       equal-cong v′ (a + 1) (λ i. capital (v′ i)) (a + 1) k v (a + 1) (λ i. capital (v i)) (a + 1) g (λ i l. ap capital (g i l)),
     )
     refl

@@ -19,7 +19,7 @@ pub stamp-octets : (t : Stamp) → Octets (stampBytes t)
 unfolding stampBytes
 stamp-octets t = octets-paste _ _ _ _ (digit-bound (t .date)) (λ i l. digit-bound (t .time) i)
 
-backed-byte : (x : ℕ) → x < 256 → backedUp x < 256
+pub backed-byte : (x : ℕ) → x < 256 → backedUp x < 256
 unfolding backedUp
 backed-byte x l = omega arith
 

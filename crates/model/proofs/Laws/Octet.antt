@@ -24,7 +24,7 @@ use Rattle.model.proofs.Laws.Sound.{sound-facts}
 use Rattle.model.proofs.Laws.Spelling.{capital-most}
 use Rattle.model.proofs.Laws.Lookup.{rows-off, not-false, name-size, path-last, open-led, target-led}
 use Rattle.model.proofs.Laws.Created.{Wants, want-file, want-directory, wants}
-use Rattle.model.proofs.Laws.Noted.{stamp-octets}
+use Rattle.model.proofs.Laws.Noted.{stamp-octets, backed-byte}
 use Rattle.model.proofs.Laws.Settled.{settled}
 
 octets-stamp : (f : Bytes) (a : ℕ) (t : Stamp) → Octets f → Octets (paste f a 4 (stampBytes t))
@@ -71,10 +71,6 @@ unfolding setInfo
 set-info-octets len v p k access aux t o h = settled _ _ v _ _ Octets o (λ e. info-octets v _ access aux t o h)
 
 -- rename
-backed-octet : (a : ℕ) → a < 256 → backedUp a < 256
-unfolding backedUp
-backed-octet a h = let q : a / 32 < 8 = omega arith in omega arith
-
 named-octets : (v : Bytes) (a : ℕ) (q : Bytes) (j : ℕ) → Octets v → Octets q → j < 16 → Octets (named v a q j)
 named-octets v a q j o p h =
     octets-paste v a 16 _ o (λ i l. name-octets (v a / 16) q (part 0 j) p (omega (arith, o a)) h i)
@@ -95,7 +91,7 @@ renamed-octets v s q j o p h = go (eqb s volume)
       | false ↦ put (headerNamed (sort v s) (named v (at s) q j) (key v s) q j) (at s + 0x1E) (backedUp (access v s))
     ])
     go true = named-octets v (at volume) q j o p h
-    go false = octets-put _ _ _ (header-named (sort v s) _ (key v s) q j (named-octets v (at s) q j o p h) p h) (backed-octet (access v s) (o (at s + 0x1E)))
+    go false = octets-put _ _ _ (header-named (sort v s) _ (key v s) q j (named-octets v (at s) q j o p h) p h) (backed-byte (access v s) (o (at s + 0x1E)))
 
 pub rename-octets : (len : ℕ) (v p : Bytes) (k : ℕ) (q : Bytes) (j : ℕ) → Octets v → Octets q → Octets (rename len v p k q j .image)
 unfolding rename renameNumber

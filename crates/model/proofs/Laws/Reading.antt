@@ -19,7 +19,7 @@ use Rattle.model.specs.Calls.{total, spot, target, allows, readBit}
 use Rattle.model.specs.declared.Stamp.{Stamp}
 use Rattle.model.proofs.ByteLaws.{at-or-off, paste-at, paste-after}
 use Rattle.model.proofs.RefusalLaws.{first-passes, settle-accepted}
-use Rattle.model.proofs.TestLaws.{and-both}
+use Rattle.model.proofs.TestLaws.{and-both, and-off}
 use Rattle.model.proofs.Laws.Sound.{facts-sound}
 use Rattle.model.proofs.Laws.Move.{by-lt}
 use Rattle.model.proofs.Laws.Entry.{Done}
@@ -83,11 +83,7 @@ module _ {len : ℕ} {v p : Bytes} {k : ℕ} (O : Opened len v p k) {w : Bytes} 
       last =
           unfold _and_ in
           at-or-off q e (λ z. rw (h z) refl)
-          (λ z. rw (ne-eqb q e z) (off (leb 1 m)))
-        where
-          off : (b : Bool) → (b and false) ≡ false
-          off true = unfold _and_ in refl
-          off false = unfold _and_ in refl
+          (λ z. rw (ne-eqb q e z) (and-off (leb 1 m)))
 
   -- and gives the bytes of the file
   pub reads-bytes : (q : ℕ) (b : Bytes) (m : ℕ) → read len w p k q b m .number ≡ 0

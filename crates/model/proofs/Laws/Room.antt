@@ -14,7 +14,7 @@ use Rattle.model.proofs.Laws.Weigh.{upto, upto-eq, upto-add, upto-one, 
 use Rattle.model.proofs.Laws.Move.{Fit, Move, move-fit, fit-off, free-out}
 use Rattle.model.proofs.Laws.Take.{topped-move, topped-weigh, topped-kept, Work, work-none, work-then}
 
-upto-is : (n z : ℕ) → z < n → upto n (λ b. is b z) ≡ 1
+pub upto-is : (n z : ℕ) → z < n → upto n (λ b. is b z) ≡ 1
 upto-is n z l = omega (arith, upto-one n z (λ b. is b z) (λ _. 0) l (λ j m d. is-no j z d), upto-zero n (λ _. 0) (λ _ _. refl), is-self z)
 
 -- each block of a tree counted by its number
@@ -32,7 +32,7 @@ tree-size n v h q k f =
       weigh-le (each (λ _. 1)) (each (λ x. upto n (λ b. is b x))) v h q k (λ _ _ b t. omega (arith, upto-is n b (f b t))),
     )
 
-room-upto : (w : Bytes) (n : ℕ) → room mapPlace w n ≡ upto n (free mapPlace w)
+pub room-upto : (w : Bytes) (n : ℕ) → room mapPlace w n ≡ upto n (free mapPlace w)
 unfolding room upto
 room-upto w zero = refl
 room-upto w (suc n) = omega (arith, room-upto w n)

@@ -6,7 +6,7 @@ use mathlib.Core.Bool.{Bool, true, false, false≢true}
 use lib.Dec.{eqb}
 use native.Mathlib.Omega.{arith}
 use borrow.Author.Tests.{eqb-true, eqb-false, eq-eqb, leb-true, le-leb}
-use Rattle.model.specs.Bytes.{Bytes, sum, count, gather, run, is, within, _and_}
+use Rattle.model.specs.Bytes.{Bytes, sum, count, gather, run, is, within}
 use Rattle.model.specs.Map.{mapBlocks, free, restClear}
 use Rattle.model.specs.Directory.{directory, sort, mapBlock, mapPlace, volume, volumeChain, key, used, chain, kids}
 use Rattle.model.specs.File.{blocks}
@@ -55,7 +55,7 @@ place-right : (n : ℕ) (v : Bytes) → sums v (faults n v) ≡ 0 → mapBlock v
 unfolding volumeFaults
 place-right n v h = let e = volume-top n v h in is-eq (mapBlock v) mapPlace (omega arith)
 
-differ-none : (xs ys : List ℕ) → differ xs ys ≡ 0 → xs ≡ ys
+pub differ-none : (xs ys : List ℕ) → differ xs ys ≡ 0 → xs ≡ ys
 unfolding differ
 differ-none [] [] e = refl
 differ-none [] (y ∷ ys) e = absurd (omega arith)

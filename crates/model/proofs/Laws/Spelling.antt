@@ -34,11 +34,11 @@ within-off low high x n = go (within low high x) refl
     go true e = let r = within-is low high x e in absurd (n (r .0) (r .1))
     go false e = refl
 
-capital-small : (c : ℕ) → within 97 122 c ≡ true → capital c ≡ c - 32
+pub capital-small : (c : ℕ) → within 97 122 c ≡ true → capital c ≡ c - 32
 unfolding capital
 capital-small c e = rw (e, capital) refl
 
-capital-other : (c : ℕ) → within 97 122 c ≡ false → capital c ≡ c
+pub capital-other : (c : ℕ) → within 97 122 c ≡ false → capital c ≡ c
 unfolding capital
 capital-other c e = rw (e, capital) refl
 
