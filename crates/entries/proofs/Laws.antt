@@ -55,13 +55,16 @@ name-stored f a kind p n l =
     ∙ paste-put f a 16 (paste zeros 1 n (capitals p)) 0 (kind * 16 + n) (omega arith)
     ∙ rw (e, paste-paste f a 16 zeros 1 n (capitals p) (omega arith)) refl)
 
--- a slot cleared has nothing but the name stored then
-pub slot-cleared : (xs : List ℕ) → length xs ≡ 39 → clear (view xs) 0 39 ≡ zeros
-slot-cleared xs e =
+-- all bytes cleared; a slot cleared has nothing but the name stored then
+pub all-cleared : (xs : List ℕ) → clear (view xs) 0 (length xs) ≡ zeros
+all-cleared xs =
     fun-ext
     (λ i.
-    in-or-out 0 39 i (λ u v. clear-in (view xs) 0 39 i u v)
-    (λ o. clear-out (view xs) 0 39 i o ∙ List·getD-eq-default xs 0 (omega (arith, o (omega arith)))))
+    in-or-out 0 (length xs) i (λ u v. clear-in (view xs) 0 (length xs) i u v)
+    (λ o. clear-out (view xs) 0 (length xs) i o ∙ List·getD-eq-default xs 0 (omega (arith, o (omega arith)))))
+
+pub slot-cleared : (xs : List ℕ) → length xs ≡ 39 → clear (view xs) 0 39 ≡ zeros
+slot-cleared xs e = ap (clear (view xs) 0) (sym e) ∙ all-cleared xs
 
 pub slot-named : (kind : ℕ) (p : Bytes) (x : Part) → x .size < 16 → putName zeros 0 kind p x ≡ nameField kind p x
 slot-named kind p x l =
