@@ -1,5 +1,5 @@
 -- What read answers, by what the path leads to.
-use Prim.Native.Nat.{ℕ, zero, suc, _-_, _<_}
+use Prim.Native.Nat.{ℕ, _<_}
 use mathlib.Core.Path.{_≡_, refl, sym, ap, _∙_}
 use mathlib.Core.List.{List, [], _∷_}
 use mathlib.Core.Bool.{Bool, true, false, not}
@@ -7,9 +7,9 @@ use lib.Dec.{leb, ltb, eqb}
 use lib.ListN.{length}
 use native.Mathlib.Omega.{arith}
 use Rattle.model.specs.Bytes.{Bytes, view, paste, from, _and_}
-use Rattle.model.specs.Kinds.{kindNumber, keyOf, kindFor}
-use Rattle.model.specs.Directory.{at, volume, volumeBlock, Sort, inactive, directory, improper, file, sort, isActive, isDirectory, key, eof, access, there}
-use Rattle.model.specs.File.{fileByte, content, height, heightFor}
+use Rattle.model.specs.Kinds.{keyOf}
+use Rattle.model.specs.Directory.{at, volume, file, sort, key, eof, access, there}
+use Rattle.model.specs.File.{fileByte, content, height}
 use Rattle.model.specs.Sound.{sound}
 use Rattle.model.specs.Refusals.{refusalNumber, Row, row, first, settle}
 use Rattle.model.specs.Calls.{total, target, spot, allows, readBit, notData}
@@ -20,18 +20,18 @@ use Rattle.model.specs.declared.Refusal.the-variants.{BadKind}
 use Rattle.model.specs.declared.Transfer.the-variants as transfer
 use Rattle.model.specs.declared.Entry.{Entry}
 use Rattle.model.specs.declared.Place.{Place}
-use Rattle.model.specs.declared.Kind.{Kind}
-use Rattle.model.specs.declared.Kind.the-variants.{Seedling, Sapling, Tree}
 use Rattle.model.proofs.RefusalLaws.{settle-refused, number-refuses, first-applies}
 use Rattle.facts.proofs.BlockLaws.{met-file}
-use Rattle.directory.specs.Slots.{kindOf, entryOf, entryWith}
-use Rattle.calls.specs.Opened.{openedBy}
-use Rattle.calls.specs.Reading.{Readable, isFolder, heightOf, entryReadNumber, entryCount, entryRead}
-use Rattle.calls.specs.declared.Opened.{Opened}
-use Rattle.calls.specs.declared.Opened.the-variants as opened
-use Rattle.calls.proofs.VolumeLaws.{Fits}
-use Rattle.calls.proofs.EntryLaws.{Named, target-named, sort-at, field-at, eof-at}
-use Rattle.calls.proofs.OpenedLaws.{openedOr, opened-first, Seen, refused, on-volume, on-entry, seen}
+use Rattle.directory.specs.Slots.{kindOf, entryOf}
+use Rattle.directory.specs.declared.Home.{Home}
+use Rattle.opening.specs.Opened.{openedBy}
+use Rattle.opening.specs.Sorts.{isFolder, heightOf}
+use Rattle.opening.specs.declared.Opened.{Opened}
+use Rattle.opening.specs.declared.Opened.the-variants as opened
+use Rattle.opening.proofs.VolumeLaws.{Fits}
+use Rattle.opening.proofs.EntryLaws.{Named, target-named, height-sort, key-sort, height-small, kind-is, folder-is, eof-is, access-is, file-is}
+use Rattle.opening.proofs.OpenedLaws.{openedOr, opened-first, Seen, refused, on-volume, on-entry, seen}
+use Rattle.calls.specs.Reading.{Readable, entryReadNumber, entryCount, entryRead}
 
 -- the rows of read from $4B on, at a place
 rowsAt : Bytes → ℕ → ℕ → ℕ → List Row
@@ -72,38 +72,6 @@ read-volume len v p k pos n l e = go (openedBy len v p k) refl e (seen len v p k
     go o q z (on-volume d f t) = read-no len v p k pos l BadKind (read-number len v p k pos (length l) ∙ ap (λ o. openedOr o (first (rowsAt v pos (length l) (spot (target v p k))))) q ∙ number d t)
     go o q z (on-entry d s f t off) = let y : _≡_ {A = ℕ} 0 1 = cc in absurd (omega arith)
 
--- a proper kind and the sort it was read from
-folder-sort : (K : Sort) (k : ℕ) → isActive K ≡ true → (K ≡ improper → ⊥) → isFolder (kindOf K k) ≡ isDirectory K
-folder-sort inactive k a p = let z : _≡_ {A = ℕ} 0 1 = cc in absurd (omega arith)
-folder-sort directory k a p = refl
-folder-sort improper k a p = absurd (p refl)
-folder-sort (file zero) k a p = refl
-folder-sort (file (suc zero)) k a p = refl
-folder-sort (file (suc (suc h))) k a p = refl
-
-height-sort : (h k : ℕ) → h < 3 → heightOf (kindOf (file h) k) ≡ h
-height-sort zero k l = refl
-height-sort (suc zero) k l = refl
-height-sort (suc (suc zero)) k l = refl
-height-sort (suc (suc (suc h))) k l = absurd (omega arith)
-
-key-sort : (K : Sort) (k : ℕ) → keyOf (kindOf K k) ≡ k
-key-sort inactive k = refl
-key-sort directory k = refl
-key-sort improper k = refl
-key-sort (file zero) k = refl
-key-sort (file (suc zero)) k = refl
-key-sort (file (suc (suc h))) k = refl
-
-height-small : (e : ℕ) → heightFor e < 3
-unfolding heightFor kindFor
-height-small e = go (leb e 512) (leb e 131072)
-  where
-    go : (a b : Bool) → kindNumber (elim a as (λ _. Kind) [ true ↦ Seedling 0 | false ↦ elim b [ true ↦ Sapling 0 | false ↦ Tree 0 ] ]) - 1 < 3
-    go true b = omega arith
-    go false true = omega arith
-    go false false = omega arith
-
 pub folder-number : (x : Entry) (pos size : ℕ) → isFolder (x .kind) ≡ true → entryReadNumber x pos size ≡ 0x4B
 unfolding entryReadNumber
 folder-number x pos size e = first-applies (row (isFolder (x .kind)) 0x4B) _ e
@@ -118,39 +86,15 @@ unfolding filledFrom toRead
 filled-same v s x pos buffer size e c = rw (e, ← c) refl
 
 module _ (n : ℕ) (v : Bytes) (d s : ℕ) (h : sound n v ≡ true) (w : Named v d s) (off : s ≡ volume → ⊥) where
-  kind-is : entryOf v (at s) .kind ≡ kindOf (sort v s) (key v s)
-  unfolding entryOf entryWith
-  kind-is = rw (sort-at v s off, field-at v s off 0x11 volumeBlock) refl
-
-  folder-is : isFolder (entryOf v (at s) .kind) ≡ isDirectory (sort v s)
-  folder-is = ap isFolder kind-is ∙ folder-sort (sort v s) (key v s) (w .active) (w .proper)
-
-  eof-is : entryOf v (at s) .eof ≡ eof v s
-  unfolding entryOf entryWith
-  eof-is = sym (eof-at v s off)
-
-  access-is : entryOf v (at s) .access ≡ access v s
-  unfolding entryOf entryWith
-  access-is = refl
-
   number-is : (pos size : ℕ) → first (rowsAt v pos size s) ≡ entryReadNumber (entryOf v (at s)) pos size
   unfolding rowsAt entryReadNumber
-  number-is pos size = rw (folder-is, access-is, eof-is) refl
-
-  file-is : isFolder (entryOf v (at s) .kind) ≡ false → (hh : ℕ) × (sort v s ≡ file hh)
-  file-is e = go (sort v s) refl (sym folder-is ∙ e) (w .active) (w .proper)
-    where
-      go : (K : Sort) → sort v s ≡ K → isDirectory K ≡ false → isActive K ≡ true → (K ≡ improper → ⊥) → (hh : ℕ) × (sort v s ≡ file hh)
-      go inactive q b a p = let z : _≡_ {A = ℕ} 0 1 = cc in absurd (omega arith)
-      go directory q b a p = let z : _≡_ {A = ℕ} 0 1 = cc in absurd (omega arith)
-      go improper q b a p = absurd (p refl)
-      go (file hh) q b a p = (hh, q)
+  number-is pos size = rw (folder-is v d s w off, access-is v d s w off, eof-is v d s w off) refl
 
   content-is : isFolder (entryOf v (at s) .kind) ≡ false → content v s ≡ fileByte v (heightOf (entryOf v (at s) .kind)) (keyOf (entryOf v (at s) .kind))
   content-is e =
-      let f = file-is e in
+      let f = file-is v d s w off e in
       let t : f .0 < 3 = rw (met-file {n = n} h (w .met) (f .1) .tall) (height-small (eof v s)) in
-      let k : entryOf v (at s) .kind ≡ kindOf (file (f .0)) (key v s) = kind-is ∙ ap (λ K. kindOf K (key v s)) (f .1) in
+      let k : entryOf v (at s) .kind ≡ kindOf (file (f .0)) (key v s) = kind-is v d s w off ∙ ap (λ K. kindOf K (key v s)) (f .1) in
       let hk : height (sort v s) ≡ heightOf (entryOf v (at s) .kind) = ap height (f .1) ∙ sym (ap heightOf k ∙ height-sort (f .0) (key v s) t) in
       let kk : key v s ≡ keyOf (entryOf v (at s) .kind) = sym (ap keyOf k ∙ key-sort (file (f .0)) (key v s)) in
       ap (λ g. fileByte v g (key v s)) hk ∙ ap (fileByte v (heightOf (entryOf v (at s) .kind))) kk
@@ -175,25 +119,25 @@ module _ (n : ℕ) (v : Bytes) (d s : ℕ) (h : sound n v ≡ true) (w : Named v
           ∙ sym (ap (λ k. settle k (filled 0 buffer) v new v) q)
       go false e =
           ap (λ k. settle k (filled 0 buffer) v (filledFrom v s pos buffer size) v) (number-is pos size)
-          ∙ ap (λ f. settle (entryReadNumber x pos size) (filled 0 buffer) v f v) (filled-same v s x pos buffer size eof-is (content-is e))
+          ∙ ap (λ f. settle (entryReadNumber x pos size) (filled 0 buffer) v f v) (filled-same v s x pos buffer size (eof-is v d s w off) (content-is e))
 
   pub readable : isFolder (entryOf v (at s) .kind) ≡ false → Readable n v (entryOf v (at s))
   readable e =
-      let f = file-is e in
+      let f = file-is v d s w off e in
       let g = met-file {n = n} h (w .met) (f .1) in
       let t : f .0 < 3 = rw (g .tall) (height-small (eof v s)) in
-      let k : entryOf v (at s) .kind ≡ kindOf (file (f .0)) (key v s) = kind-is ∙ ap (λ K. kindOf K (key v s)) (f .1) in
+      let k : entryOf v (at s) .kind ≡ kindOf (file (f .0)) (key v s) = kind-is v d s w off ∙ ap (λ K. kindOf K (key v s)) (f .1) in
       let hk : heightOf (entryOf v (at s) .kind) ≡ f .0 = ap heightOf k ∙ height-sort (f .0) (key v s) t in
       let kk : keyOf (entryOf v (at s) .kind) ≡ key v s = ap keyOf k ∙ key-sort (file (f .0)) (key v s) in
       record { low = rw hk t; backed = rw (hk, kk) (g .backed) }
 
 -- the path leads to an entry
-pub read-entry : (len : ℕ) (v p : Bytes) (k pos : ℕ) (buffer : Bytes) (size n : ℕ) (s : Place) (x : Entry) → openedBy len v p k ≡ opened.Entry n s x
+pub read-entry : (len : ℕ) (v p : Bytes) (k pos : ℕ) (buffer : Bytes) (size n : ℕ) (g : Home) (s : Place) (x : Entry) → openedBy len v p k ≡ opened.Entry n g s x
     → Fits len v n × (read len v p k pos buffer size ≡ entryRead v x pos buffer size) × (isFolder (x .kind) ≡ false → Readable n v x)
 unfolding read
-read-entry len v p k pos buffer size n s x e = go (openedBy len v p k) refl e (seen len v p k)
+read-entry len v p k pos buffer size n g s x e = go (openedBy len v p k) refl e (seen len v p k)
   where
-    go : (o : Opened) → openedBy len v p k ≡ o → o ≡ opened.Entry n s x → Seen len v p k o
+    go : (o : Opened) → openedBy len v p k ≡ o → o ≡ opened.Entry n g s x → Seen len v p k o
         → Fits len v n × (read len v p k pos buffer size ≡ entryRead v x pos buffer size) × (isFolder (x .kind) ≡ false → Readable n v x)
     go o q z (refused r y) = let w : _≡_ {A = ℕ} 0 1 = cc in absurd (omega arith)
     go o q z (on-volume d f t) = let w : _≡_ {A = ℕ} 0 1 = cc in absurd (omega arith)

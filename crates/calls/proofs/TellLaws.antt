@@ -8,6 +8,9 @@ use Rattle.model.specs.Bytes.{Bytes, word}
 use Rattle.model.specs.Map.{room}
 use Rattle.model.specs.Directory.{at, volume, volumeLength, mapBlock, mapPlace, access, there}
 use Rattle.directory.specs.Slots.{placeOf, entryOf, entryWith}
+use Rattle.directory.specs.Lookup.{homeOf}
+use Rattle.directory.specs.declared.Home.{Home}
+use Rattle.calls.specs.Told.{told}
 use Rattle.model.specs.Refusals.{refusalNumber, first, settle}
 use Rattle.model.specs.Calls.{total, target, spot}
 use Rattle.model.specs.Info.{stampAt, noSpace, space, spaceNumber, noInfo, info, entryInfo, volumeInfo, getInfo, getInfoNumber}
@@ -19,14 +22,14 @@ use Rattle.model.specs.declared.Refusal.{Refusal}
 use Rattle.model.specs.declared.SpaceAnswer.the-variants as spacing
 use Rattle.model.specs.declared.InfoAnswer.the-variants as information
 use Rattle.model.proofs.RefusalLaws.{settle-refused, settle-accepted, number-refuses}
-use Rattle.calls.specs.Opened.{volumeIn, openedBy, told}
-use Rattle.calls.specs.declared.Volume.{Volume}
-use Rattle.calls.specs.declared.Volume.the-variants as volumes
-use Rattle.calls.specs.declared.Opened.{Opened}
-use Rattle.calls.specs.declared.Opened.the-variants as opened
-use Rattle.calls.proofs.VolumeLaws.{volumeOr, volume-first, Fits, volume-sound}
-use Rattle.calls.proofs.EntryLaws.{Named, target-named, sort-at, field-at, ftype-at, eof-at, kind-back}
-use Rattle.calls.proofs.OpenedLaws.{openedOr, opened-first, Seen, refused, on-volume, on-entry, seen}
+use Rattle.opening.specs.Opened.{volumeIn, openedBy}
+use Rattle.opening.specs.declared.Volume.{Volume}
+use Rattle.opening.specs.declared.Volume.the-variants as volumes
+use Rattle.opening.specs.declared.Opened.{Opened}
+use Rattle.opening.specs.declared.Opened.the-variants as opened
+use Rattle.opening.proofs.VolumeLaws.{volumeOr, volume-first, Fits, volume-sound}
+use Rattle.opening.proofs.EntryLaws.{Named, target-named, sort-at, field-at, ftype-at, eof-at, kind-back}
+use Rattle.opening.proofs.OpenedLaws.{openedOr, opened-first, Seen, refused, on-volume, on-entry, seen}
 
 -- the outcome of a call that only tells
 refused-tells : {P : Type 0} (k : ℕ) (none : P) (v : Bytes) (some : P) (r : Refusal) → k ≡ refusalNumber r → settle k none v some v .parts ≡ none
@@ -97,13 +100,13 @@ info-volume len v p k n e = go (openedBy len v p k) refl e (seen len v p k)
         rw (← m) (f, told-at len v p k d volume (opened.Volume (total len)) (volumeInfo (total len) v) q refl t (unfold info in refl))
     go o q z (on-entry d s f t off) = let y : _≡_ {A = ℕ} 0 1 = cc in absurd (omega arith)
 
-pub info-entry : (len : ℕ) (v p : Bytes) (k n : ℕ) (s : Place) (x : Entry) → openedBy len v p k ≡ opened.Entry n s x → Tells (getInfo len v p k) (information.Told (told x))
-info-entry len v p k n s x e = go (openedBy len v p k) refl e (seen len v p k)
+pub info-entry : (len : ℕ) (v p : Bytes) (k n : ℕ) (g : Home) (s : Place) (x : Entry) → openedBy len v p k ≡ opened.Entry n g s x → Tells (getInfo len v p k) (information.Told (told x))
+info-entry len v p k n g s x e = go (openedBy len v p k) refl e (seen len v p k)
   where
-    go : (o : Opened) → openedBy len v p k ≡ o → o ≡ opened.Entry n s x → Seen len v p k o → Tells (getInfo len v p k) (information.Told (told x))
+    go : (o : Opened) → openedBy len v p k ≡ o → o ≡ opened.Entry n g s x → Seen len v p k o → Tells (getInfo len v p k) (information.Told (told x))
     go o q z (refused r y) = let w : _≡_ {A = ℕ} 0 1 = cc in absurd (omega arith)
     go o q z (on-volume d f t) = let w : _≡_ {A = ℕ} 0 1 = cc in absurd (omega arith)
     go o q z (on-entry d y f t off) =
         let m : entryOf v (at y) ≡ x = cc in
-        rw (← m) (told-at len v p k d y (opened.Entry (total len) (placeOf y) (entryOf v (at y))) (told (entryOf v (at y))) q refl t
+        rw (← m) (told-at len v p k d y (opened.Entry (total len) (homeOf v d) (placeOf y) (entryOf v (at y))) (told (entryOf v (at y))) q refl t
         (entry-told (total len) v d y (target-named (total len) v p k d y (f .sane) t) off))

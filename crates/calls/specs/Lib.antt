@@ -1,3 +1,3 @@
--- What the contracts of calls cite: what an image and a path are, and reading by an entry.
-pub mod Opened
+-- What the contracts of calls cite: what is told of an entry, and reading by an entry.
+pub mod Told
 pub mod Reading

@@ -1,7 +1,7 @@
 -- Reading a file by its decoded entry.
 use Prim.Native.Nat.{ℕ, _-_, _<_, min}
 use mathlib.Core.List.{[], _∷_}
-use mathlib.Core.Bool.{Bool, true, false, not}
+use mathlib.Core.Bool.{not}
 use lib.Dec.{leb, ltb, eqb}
 use Rattle.model.specs.Bytes.{Bytes, paste, from, _and_}
 use Rattle.model.specs.Kinds.{keyOf}
@@ -11,21 +11,7 @@ use Rattle.model.specs.Calls.{allows, readBit}
 use Rattle.model.specs.Read.{Filled, filled}
 use Rattle.facts.specs.Reached.{Deep}
 use Rattle.model.specs.declared.Entry.{Entry}
-use Rattle.model.specs.declared.Kind.{Kind}
-use Rattle.model.specs.declared.Kind.the-variants.{Seedling, Sapling, Tree, Directory}
-
-abbrev pub isFolder : Kind → Bool
-isFolder (Seedling k) = false
-isFolder (Sapling k) = false
-isFolder (Tree k) = false
-isFolder (Directory k) = true
-
--- the height of a data file; 3 for a directory, which has none
-abbrev pub heightOf : Kind → ℕ
-heightOf (Seedling k) = 0
-heightOf (Sapling k) = 1
-heightOf (Tree k) = 2
-heightOf (Directory k) = 3
+use Rattle.opening.specs.Sorts.{isFolder, heightOf}
 
 -- the rows from $4B on
 unfoldable pub entryReadNumber : Entry → ℕ → ℕ → ℕ

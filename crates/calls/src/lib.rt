@@ -6,104 +6,32 @@ ghost use Prim.Native.Nat.{ℕ, _+_, _-_, _*_, _≤_, _<_, min};
 ghost use lib.ListN.{length};
 ghost use Rattle.model.specs.Bytes.{view, word};
 ghost use Rattle.model.specs.Directory.{mapBlock, mapPlace};
-ghost use Rattle.model.specs.Names.{properPath};
-ghost use Rattle.model.specs.Calls.{target};
-ghost use Rattle.model.specs.Sound.{sound};
 ghost use Rattle.model.specs.Info.{volumeInfo, getInfo, space as spaceCall};
 ghost use Rattle.model.specs.Read.{read as readCall};
 ghost use Rattle.model.specs.Answers.{Reads, Tells, Measures};
-ghost use Rattle.calls.specs.Opened.{volumeIn, openedAt, openedBy, told};
-ghost use Rattle.calls.specs.Reading.{heightOf, isFolder, Readable, entryRead};
-use directory::Looked;
+ghost use Rattle.calls.specs.Told.{told};
+ghost use Rattle.opening.specs.Sorts.{isFolder};
+ghost use Rattle.calls.specs.Reading.{Readable, entryRead};
 use model::Entry;
 use model::Info;
 use model::InfoAnswer;
-use model::Kind;
-use model::Place;
 use model::Refusal;
 use model::SpaceAnswer;
 use model::Stamp;
 use model::Transfer;
+use opening::Opened;
+use opening::Volume;
 
 const MAP_BLOCK: usize = 6;
 
 // Where the volume's header begins: slot 1 of block 2.
 const VOLUME_HEADER: usize = 1028;
 
-// What an image is: a sound volume of so many blocks, or refused.
-pub enum Volume {
-    Sound(usize),
-    Refused(Refusal),
-}
-
-// What a path leads to, with the number of blocks of its volume; or why it leads nowhere.
-pub enum Opened {
-    Volume(usize),
-    Entry(usize, Place, Entry),
-    Refused(Refusal),
-}
-
-// $52 and $5A: whether an image is a sound volume.
-pub fn volume_in(img: &[u8]) -> Volume
-    ensures { λ r. ⌜ r ≡ volumeIn (length (now (img .entry))) (view (now (img .entry))) ⌝ }
-{
-    let size = img.len();
-    if size % 512 != 0 {
-        return Volume::Refused(Refusal::NotProdos);
-    }
-    let n = size / 512;
-    if n < 16 {
-        return Volume::Refused(Refusal::NotProdos);
-    }
-    if 65535 < n {
-        return Volume::Refused(Refusal::NotProdos);
-    }
-    if !checks::is_prodos(img, n) {
-        return Volume::Refused(Refusal::NotProdos);
-    }
-    if sound::is_sound(img, n) {
-        Volume::Sound(n)
-    } else {
-        Volume::Refused(Refusal::NotSound)
-    }
-}
-
-// $45, $44 and $46: what a proper path leads to on a sound volume.
-fn opened_at(img: &[u8], n: usize, path: &[u8]) -> Opened
-    requires { ⌜ (n ≤ 65535) × (length (now img) ≡ n * 512) × (sound n (view (now img)) ≡ true) ⌝ }
-    requires { ⌜ properPath (view (now path)) (length (now path)) ≡ true ⌝ }
-    ensures { λ r. ⌜ r ≡ openedAt n (view (now (img .entry))) (target (view (now (img .entry))) (view (now (path .entry))) (length (now (path .entry)))) ⌝ }
-{
-    match directory::lookup(img, n, path) {
-        Looked::NoVolume => Opened::Refused(Refusal::NoVolume),
-        Looked::NoDirectory => Opened::Refused(Refusal::NoDirectory),
-        Looked::Missing(_) => Opened::Refused(Refusal::NotFound),
-        Looked::There(_, place, entry) => Opened::Entry(n, place, entry),
-        Looked::Volume => Opened::Volume(n),
-    }
-}
-
-// The refusals that every call with a path has, in their order, up to $46.
-pub fn opened_by(img: &[u8], path: &[u8]) -> Opened
-    ensures { λ r. ⌜ r ≡ openedBy (length (now (img .entry))) (view (now (img .entry))) (view (now (path .entry))) (length (now (path .entry))) ⌝ }
-{
-    match volume_in(img) {
-        Volume::Refused(why) => Opened::Refused(why),
-        Volume::Sound(n) => {
-            if names::is_proper_path(path) {
-                opened_at(img, n, path)
-            } else {
-                Opened::Refused(Refusal::BadPath)
-            }
-        }
-    }
-}
-
 // Space: total and free blocks.
 pub fn space(img: &[u8]) -> SpaceAnswer
     ensures { λ r. ⌜ Measures (spaceCall (length (now (img .entry))) (view (now (img .entry)))) r ⌝ }
 {
-    match volume_in(img) {
+    match opening::volume_in(img) {
         Volume::Refused(why) => SpaceAnswer::Refused(why),
         Volume::Sound(n) => SpaceAnswer::Blocks {
             total: n as u16,
@@ -164,22 +92,10 @@ fn volume_info(img: &[u8], n: usize) -> Info
 pub fn get_info(img: &[u8], path: &[u8]) -> InfoAnswer
     ensures { λ r. ⌜ Tells (getInfo (length (now (img .entry))) (view (now (img .entry))) (view (now (path .entry))) (length (now (path .entry)))) r ⌝ }
 {
-    match opened_by(img, path) {
+    match opening::opened_by(img, path) {
         Opened::Refused(why) => InfoAnswer::Refused(why),
         Opened::Volume(n) => InfoAnswer::Told(volume_info(img, n)),
-        Opened::Entry(_, _, entry) => InfoAnswer::Told(entry_info(entry)),
-    }
-}
-
-// The height of a data file; 3 for a directory.
-fn height_of(kind: Kind) -> usize
-    ensures { λ r. ⌜ r ≡ heightOf kind ⌝ }
-{
-    match kind {
-        Kind::Seedling(_) => 0,
-        Kind::Sapling(_) => 1,
-        Kind::Tree(_) => 2,
-        Kind::Directory(_) => 3,
+        Opened::Entry(_, _, _, entry) => InfoAnswer::Told(entry_info(entry)),
     }
 }
 
@@ -195,7 +111,7 @@ fn read_file(img: &[u8], n: usize, entry: Entry, position: usize, buffer: &mut [
     ensures { λ r. ⌜ Reads (entryRead (view (now (img .entry))) entry position (view (now (buffer .entry))) (length (now (buffer .entry)))) (length (now (buffer .entry))) r (now (buffer .exit)) ⌝ }
 {
     let kind = entry.kind;
-    let height = height_of(kind);
+    let height = opening::height_of(kind);
     if height == 3 {
         return Transfer::Refused(Refusal::BadKind);
     }
@@ -229,9 +145,9 @@ fn read_file(img: &[u8], n: usize, entry: Entry, position: usize, buffer: &mut [
 pub fn read(img: &[u8], path: &[u8], position: usize, buffer: &mut [u8]) -> Transfer
     ensures { λ r. ⌜ Reads (readCall (length (now (img .entry))) (view (now (img .entry))) (view (now (path .entry))) (length (now (path .entry))) position (view (now (buffer .entry))) (length (now (buffer .entry)))) (length (now (buffer .entry))) r (now (buffer .exit)) ⌝ }
 {
-    match opened_by(img, path) {
+    match opening::opened_by(img, path) {
         Opened::Refused(why) => Transfer::Refused(why),
         Opened::Volume(_) => Transfer::Refused(Refusal::BadKind),
-        Opened::Entry(n, _, entry) => read_file(img, n, entry, position, buffer),
+        Opened::Entry(n, _, _, entry) => read_file(img, n, entry, position, buffer),
     }
 }

@@ -7,7 +7,7 @@ use lib.ListN.{length}
 use native.Mathlib.Omega.{arith}
 use native.Mathlib.Numerals.{add-one}
 use borrow.Author.Tests.{eq-eqb, ne-eqb, lt-ltb, le-ltb, le-leb, lt-leb}
-use Rattle.model.specs.Bytes.{Bytes, put, clear, paste, digit, putWord}
+use Rattle.model.specs.Bytes.{Bytes, clear}
 use Rattle.model.specs.Map.{mapBlocks, mapAt, free, room, lowest, firstFree}
 use Rattle.model.specs.Directory.{mapPlace, at, sort, key, eof}
 use Rattle.model.specs.Kinds.{kindFor, kindNumber}
@@ -15,9 +15,8 @@ use Rattle.model.specs.declared.Kind.the-variants.{Seedling, Sapling, Tree}
 use Rattle.model.specs.File.{heightFor, height, span, pointer, above, dataBlock, nodes}
 use Rattle.model.specs.Grow.{zeroedFrom, topped, raised, raisedKey}
 use Rattle.model.specs.Write.{noted, grown, grownKey}
-use Rattle.model.specs.Calls.{backedUp, stampBytes, putStamp}
+use Rattle.model.specs.Calls.{backedUp}
 use Rattle.model.specs.declared.Stamp.{Stamp}
-use Rattle.model.proofs.ByteLaws.{paste-by, paste-in, paste-out, paste-at, putWord-at, putWord-out, in-or-out}
 use Rattle.model.proofs.BitLaws.{lowest-free, lowest-most, room-lowest, mapAt-in}
 use Rattle.model.proofs.Laws.Weigh.{weigh, each, size, nodes-length}
 use Rattle.model.proofs.Laws.Move.{Fit, Move, move-fit, fit-key, fit-below}
@@ -69,7 +68,7 @@ full-is e z = go (e % 512) refl
   where
     go : (r : ℕ) → e % 512 ≡ r → eqb r 0 ≡ not (ltb e (span e * 512))
     go zero q = rw (le-ltb e (span e * 512) (unfold span in omega arith)) refl
-    go (suc r) q = rw (lt-ltb e (span e * 512) (unfold span in omega arith)) refl
+    go (suc r) q = rw (lt-ltb e (span e * 512) (unfold span in omega arith)) (ne-eqb (suc r) 0 (λ z. omega arith))
 
 module _ (v : Bytes) (h k e : ℕ) where
   pub tail-full : true ≡ not (ltb e (span e * 512)) → v ≡ zeroedFrom v h k e
@@ -80,21 +79,25 @@ module _ (v : Bytes) (h k e : ℕ) where
       go false q u = rw (q, zeroedFrom) refl
       go true q u = let z : _≡_ {A = ℕ} 0 1 = cc in absurd (omega arith)
 
-  tail-on : (b : ℕ) → b ≡ dataBlock v h k (e / 512) → (x : Bytes) → (c : Bool) → eqb b 0 ≡ c → false ≡ not (ltb e (span e * 512))
-      → x ≡ elim c [ true ↦ v | false ↦ clear v (b * 512 + e % 512) (512 - e % 512) ] → x ≡ zeroedFrom v h k e
+  tail-on : (c : Bool) → eqb (dataBlock v h k (e / 512)) 0 ≡ c → false ≡ not (ltb e (span e * 512))
+      → zeroedFrom v h k e
+      ≡ elim c [ true ↦ v | false ↦ clear v (dataBlock v h k (e / 512) * 512 + e % 512) (512 - e % 512) ]
   unfolding zeroedFrom
-  tail-on b d x c q t u = go (ltb e (span e * 512)) refl t
+  tail-on c q t = go (ltb e (span e * 512)) refl t
     where
-      go : (b : Bool) → ltb e (span e * 512) ≡ b → false ≡ not b → x ≡ zeroedFrom v h k e
-      go true q′ y = rw (q′, ← d, q, zeroedFrom) u
+      go : (b : Bool) → ltb e (span e * 512) ≡ b → false ≡ not b
+          → zeroedFrom v h k e
+          ≡ elim c [ true ↦ v | false ↦ clear v (dataBlock v h k (e / 512) * 512 + e % 512) (512 - e % 512) ]
+      go true q′ y = rw (q′, q, zeroedFrom) refl
       go false q′ y = let z : _≡_ {A = ℕ} 0 1 = cc in absurd (omega arith)
 
   pub tail-hole : (b : ℕ) → b ≡ dataBlock v h k (e / 512) → b ≡ 0 → false ≡ not (ltb e (span e * 512)) → v ≡ zeroedFrom v h k e
-  tail-hole b d z t = tail-on b d v true (eq-eqb b 0 z) t refl
+  tail-hole b d z t = sym (tail-on true (eq-eqb _ 0 (sym d ∙ z)) t)
 
   pub tail-there : (b : ℕ) → b ≡ dataBlock v h k (e / 512) → (b ≡ 0 → ⊥) → false ≡ not (ltb e (span e * 512))
       → clear v (b * 512 + e % 512) (512 - e % 512) ≡ zeroedFrom v h k e
-  tail-there b d z t = tail-on b d _ false (ne-eqb b 0 z) t refl
+  tail-there b d z t =
+      ap (λ x. clear v (x * 512 + e % 512) (512 - e % 512)) d ∙ sym (tail-on false (ne-eqb _ 0 (λ y. z (d ∙ y))) t)
 
 -- New keys.
 module _ (n tall goal k : ℕ) (w : Bytes) where
@@ -195,25 +198,3 @@ pub backed-more : (x : ℕ) → (x / 32 % 2 ≡ 1 → ⊥) → x + 32 ≡ backed
 unfolding backedUp
 backed-more x e = let z : x / 32 % 2 ≡ 0 = omega arith in rw z (omega arith)
 
--- a stamp is two words
-pub stamp-words : (f : Bytes) (a : ℕ) (t : Stamp) → putWord (putWord f a (t .date)) (a + 2) (t .time) ≡ putStamp f a t
-unfolding stampBytes
-stamp-words f a t = paste-by _ f a 4 _ inside outside
-  where
-    both : Bytes
-    both = putWord (putWord f a (t .date)) (a + 2) (t .time)
-
-    early : (i : ℕ) → i < 2 → both (a + i) ≡ digit (t .date) i
-    early i l = putWord-out _ (a + 2) (t .time) (a + i) (λ p q. omega arith) ∙ putWord-at f a (t .date) i l
-
-    late : (i : ℕ) → i < 2 → both (a + (2 + i)) ≡ digit (t .time) i
-    late i l = let e : a + (2 + i) ≡ a + 2 + i = omega arith in rw e (putWord-at _ (a + 2) (t .time) i l)
-
-    inside : (i : ℕ) → i < 4 → both (a + i) ≡ paste (digit (t .date)) 2 2 (digit (t .time)) i
-    inside i l =
-        in-or-out 2 2 i
-        (λ p q. let e : i ≡ 2 + (i - 2) = omega arith in rw e (late (i - 2) (omega arith) ∙ sym (paste-at (digit (t .date)) 2 2 (digit (t .time)) (i - 2) (omega arith))))
-        (λ z. early i (omega (arith, z)) ∙ sym (paste-out (digit (t .date)) 2 2 (digit (t .time)) i z))
-
-    outside : (i : ℕ) → (a ≤ i → i < a + 4 → ⊥) → both i ≡ f i
-    outside i z = putWord-out _ (a + 2) (t .time) i (λ p q. z (omega arith) (omega arith)) ∙ putWord-out f a (t .date) i (λ p q. z (omega arith) (omega arith))

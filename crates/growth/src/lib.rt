@@ -125,14 +125,6 @@ fn backed_up(access: u8) -> u8
     access + 32
 }
 
-fn put_stamp(img: &mut [u8], at: usize, stamp: Stamp)
-    requires { ⌜ at + 3 < length (now img) ⌝ }
-    ensures { λ _. ⌜ view (now (img .exit)) ≡ putStamp (view (now (img .entry))) at stamp ⌝ }
-{
-    store::put_word(img, at, stamp.date as usize);
-    store::put_word(img, at + 2, stamp.time as usize);
-}
-
 // Kind, key, blocks used and EOF of the entry at an address.
 fn note_file(img: &mut [u8], at: usize, height: usize, key: usize, used: usize, eof: usize)
     requires { ⌜ (at + 39 ≤ length (now img)) × (height ≤ 2) ⌝ }
@@ -151,7 +143,7 @@ fn note_change(img: &mut [u8], at: usize, access: u8, stamp: Stamp)
     ensures { λ _. ⌜ view (now (img .exit)) ≡ putStamp (put (view (now (img .entry))) (at + 0x1E) (backedUp access)) (at + 0x21) stamp ⌝ }
 {
     store::put_byte(img, at + 0x1E, backed_up(access));
-    put_stamp(img, at + 0x21, stamp);
+    entries::put_stamp(img, at + 0x21, stamp);
 }
 
 // The entry at an address, written anew. The file's blocks and the free ones were so many together: what is not free now is used.

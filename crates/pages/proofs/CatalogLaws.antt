@@ -12,9 +12,9 @@ use Rattle.model.specs.Info.{spaceNumber}
 use Rattle.model.specs.Catalog.{catalog, catalogMost, listing, refusedLine, tooLargeLine}
 use Rattle.model.specs.declared.Refusal.{Refusal}
 use Rattle.model.proofs.RefusalLaws.{number-refuses}
-use Rattle.calls.specs.Opened.{volumeIn}
-use Rattle.calls.specs.declared.Volume.the-variants as volumes
-use Rattle.calls.proofs.VolumeLaws.{volumeOr, volume-first, volume-sound}
+use Rattle.opening.specs.Opened.{volumeIn}
+use Rattle.opening.specs.declared.Volume.the-variants as volumes
+use Rattle.opening.proofs.VolumeLaws.{volumeOr, volume-first, volume-sound}
 
 pub too-large : (len : ℕ) (v : Bytes) → catalogMost < len → catalog len v ≡ tooLargeLine
 unfolding catalog

@@ -4,7 +4,7 @@ ghost use lib.ListN.{length};
 ghost use Rattle.model.specs.Bytes.{view};
 ghost use Rattle.model.specs.Catalog.{catalog};
 ghost use Rattle.listing.specs.Ink.{Shows};
-use calls::Volume;
+use opening::Volume;
 
 const MOST: usize = 65536;
 
@@ -15,7 +15,7 @@ pub fn catalog_page(img: &[u8], offset: usize, page: &mut [u8]) -> usize
     if MOST < img.len() {
         return listing::page_of_too_large(offset, page);
     }
-    match calls::volume_in(img) {
+    match opening::volume_in(img) {
         Volume::Refused(why) => {
             let number = model::refusal_number(why);
             listing::page_of_refusal(number, offset, page)

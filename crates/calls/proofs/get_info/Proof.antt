@@ -49,7 +49,7 @@ returns-3 c =
     let a = c .before .before .before .before .before .before .before .args in
     let l = a .img .now in
     let p = a .path .now in
-    rw (c .entry-info .ensures) (info-entry (length l) (view l) (view p) (length p) _ _ _ (sym (c .before .before .before .before .opened-by .ensures) ∙ c .before .before .entry .given .1))
+    rw (c .entry-info .ensures) (info-entry (length l) (view l) (view p) (length p) _ _ _ _ (sym (c .before .before .before .before .opened-by .ensures) ∙ c .before .before .entry .given .1))
 
 pub get-info-spec : {M : Type 1} → statement M
 get-info-spec =

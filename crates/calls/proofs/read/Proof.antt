@@ -25,7 +25,7 @@ read-file-requires c κs =
     let l = a .img .now in
     let p = a .path .now in
     let b = a .buffer .now in
-    let r = read-entry (length l) (view l) (view p) (length p) (a .position) (view b) (length b) _ _ _ (sym (c .before .before .before .before .opened-by .ensures) ∙ c .before .before .n .given .1) in
+    let r = read-entry (length l) (view l) (view p) (length p) (a .position) (view b) (length b) _ _ _ _ (sym (c .before .before .before .before .opened-by .ensures) ∙ c .before .before .n .given .1) in
     (r .0 .most, r .0 .whole, r .2)
 
 returns : tie.Need-returns
@@ -51,7 +51,7 @@ returns-3 c =
     let l = a .img .now in
     let p = a .path .now in
     let b = a .buffer .now in
-    let r = read-entry (length l) (view l) (view p) (length p) (a .position) (view b) (length b) _ _ _ (sym (c .before .before .before .before .before .before .before .opened-by .ensures) ∙ c .before .before .before .before .before .n .given .1) in
+    let r = read-entry (length l) (view l) (view p) (length p) (a .position) (view b) (length b) _ _ _ _ (sym (c .before .before .before .before .before .before .before .opened-by .ensures) ∙ c .before .before .before .before .before .n .given .1) in
     rw (r .1) (c .before .before .read-file .ensures)
 
 pub read-spec : {M : Type 1} → statement M

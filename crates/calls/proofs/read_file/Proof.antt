@@ -7,9 +7,10 @@ use borrow.Author.Needs.{needs}
 use Rattle.model.specs.Bytes.{view, paste, from}
 use Rattle.model.specs.File.{fileByte}
 use Rattle.model.specs.declared.Refusal.the-variants.{BadKind, Locked, BadPosition, EndOfFile}
-use Rattle.calls.specs.Reading.{heightOf}
+use Rattle.opening.specs.Sorts.{heightOf}
 use Rattle.calls.proofs.ReadLaws.{folder-number}
-use Rattle.calls.proofs.CodeLaws.{folder, no-folder, number-locked, number-far, number-end, number-none, entry-no, entry-moved}
+use Rattle.opening.proofs.EntryLaws.{folder, no-folder}
+use Rattle.calls.proofs.CodeLaws.{number-locked, number-far, number-end, number-none, entry-no, entry-moved}
 use Rattle.calls.proofs.read_file.Statement.{statement}
 use Rattle.calls.proofs.read_file.Tie as tie
 

@@ -5,7 +5,7 @@ use native.Mathlib.Omega.{arith}
 use borrow.Author.Needs.{needs}
 use Rattle.model.specs.Bytes.{view}
 use Rattle.model.specs.Map.{mapBlocks}
-use Rattle.calls.proofs.VolumeLaws.{volume-sound}
+use Rattle.opening.proofs.VolumeLaws.{volume-sound}
 use Rattle.calls.proofs.TellLaws.{space-refused, space-told}
 use Rattle.calls.proofs.space.Statement.{statement}
 use Rattle.calls.proofs.space.Tie as tie

@@ -5,14 +5,14 @@ use lib.ListN.{length}
 use native.Mathlib.Omega.{arith}
 use Rattle.model.specs.Bytes.{view}
 use Rattle.model.specs.Catalog.{catalogMost}
-use Rattle.calls.proofs.VolumeLaws.{volume-sound}
+use Rattle.opening.proofs.VolumeLaws.{volume-sound}
 use Rattle.pages.proofs.CatalogLaws.{too-large, refused-line, listed}
 use borrow.Author.Needs.{needs}
 use Rattle.pages.proofs.catalog_page.Statement.{statement}
 use Rattle.pages.proofs.catalog_page.Tie as tie
 use Rattle.pages.proofs.catalog_page.Reads as reads
 use Rattle.pages.proofs.catalog_page.Lts as lts
-use Rattle.calls.proofs.volume_in.Reads as volume-in-reads
+use Rattle.opening.proofs.volume_in.Reads as volume-in-reads
 use Rattle.listing.proofs.page_of_refusal.Reads as page-of-refusal-reads
 use Rattle.listing.proofs.page_of_too_large.Reads as page-of-too-large-reads
 use Rattle.listing.proofs.page_of_volume.Reads as page-of-volume-reads

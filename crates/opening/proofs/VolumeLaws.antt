@@ -14,9 +14,9 @@ use Rattle.model.specs.Calls.{total, notProdos, notSound}
 use Rattle.model.specs.declared.Refusal.the-variants.{NotProdos, NotSound}
 use Rattle.claims.proofs.SoundFacts.{sound-facts}
 use Rattle.claims.proofs.TestLaws.{and-true}
-use Rattle.calls.specs.Opened.{volumeIn}
-use Rattle.calls.specs.declared.Volume.{Volume}
-use Rattle.calls.specs.declared.Volume.the-variants as volumes
+use Rattle.opening.specs.Opened.{volumeIn}
+use Rattle.opening.specs.declared.Volume.{Volume}
+use Rattle.opening.specs.declared.Volume.the-variants as volumes
 
 -- the number of a refused image, or what the rows that follow give
 abbrev pub volumeOr : Volume → ℕ → ℕ

@@ -1,12 +1,12 @@
--- `calls::opened_by` meets its contract: the image as a volume, then the path, then what it leads to. Assumes nothing.
+-- `opening::opened_by` meets its contract: the image as a volume, then the path, then what it leads to. Assumes nothing.
 use mathlib.Core.Path.{sym, _∙_}
 use lib.ListN.{length}
 use borrow.Author.Needs.{needs}
 use Rattle.model.specs.Bytes.{view}
-use Rattle.calls.proofs.VolumeLaws.{volume-sound}
-use Rattle.calls.proofs.CodeLaws.{opened-refused, opened-bad, opened-good}
-use Rattle.calls.proofs.opened_by.Statement.{statement}
-use Rattle.calls.proofs.opened_by.Tie as tie
+use Rattle.opening.proofs.VolumeLaws.{volume-sound}
+use Rattle.opening.proofs.CodeLaws.{opened-refused, opened-bad, opened-good}
+use Rattle.opening.proofs.opened_by.Statement.{statement}
+use Rattle.opening.proofs.opened_by.Tie as tie
 
 volume-in-requires : tie.Need-volume-in-requires
 volume-in-requires c κs = search needs

@@ -8,6 +8,7 @@ use borrow.Author.Tests.{eqb-true, eqb-false}
 use Rattle.model.specs.Bytes.{Bytes, _and_}
 use Rattle.model.specs.Names.{properPath}
 use Rattle.directory.specs.Slots.{placeOf, entryOf}
+use Rattle.directory.specs.Lookup.{homeOf}
 use Rattle.model.specs.Directory.{at, volume, Target, noVolume, noDirectory, missing, there}
 use Rattle.model.specs.Sound.{wholeBlocks, prodos, sound}
 use Rattle.model.specs.Refusals.{refusalNumber, Row, first}
@@ -15,29 +16,29 @@ use Rattle.model.specs.Calls.{total, target, notProdos, notSound, badPath, notV
 use Rattle.model.proofs.RefusalLaws.{first-applies, first-passes}
 use Rattle.model.specs.declared.Refusal.{Refusal}
 use Rattle.model.specs.declared.Refusal.the-variants.{NotProdos, NotSound, BadPath, NoVolume, NoDirectory, NotFound}
-use Rattle.calls.specs.Opened.{volumeIn, openedAt, openedOn, openedBy}
-use Rattle.calls.specs.declared.Volume.{Volume}
-use Rattle.calls.specs.declared.Volume.the-variants as volumes
-use Rattle.calls.specs.declared.Opened.{Opened}
-use Rattle.calls.specs.declared.Opened.the-variants as opened
+use Rattle.opening.specs.Opened.{volumeIn, openedAt, openedOn, openedBy}
+use Rattle.opening.specs.declared.Volume.{Volume}
+use Rattle.opening.specs.declared.Volume.the-variants as volumes
+use Rattle.opening.specs.declared.Opened.{Opened}
+use Rattle.opening.specs.declared.Opened.the-variants as opened
 use Rattle.claims.proofs.TestLaws.{and-true}
-use Rattle.calls.proofs.VolumeLaws.{volumeOr, volume-first, Fits, fits}
+use Rattle.opening.proofs.VolumeLaws.{volumeOr, volume-first, Fits, fits}
 
 -- the number of a refused answer, or what the rows that follow give
 abbrev pub openedOr : Opened → ℕ → ℕ
 openedOr (opened.Volume n) x = x
-openedOr (opened.Entry n s e) x = x
+openedOr (opened.Entry n h s e) x = x
 openedOr (opened.Refused r) x = refusalNumber r
 
 -- $45, $44 and $46
-target-first : (n : ℕ) (v : Bytes) (t : Target) (rest : List Row) → first (notVolume t ∷ notDirectory t ∷ notFound t ∷ rest) ≡ openedOr (openedAt n v t) (first rest)
+pub target-first : (n : ℕ) (v : Bytes) (t : Target) (rest : List Row) → first (notVolume t ∷ notDirectory t ∷ notFound t ∷ rest) ≡ openedOr (openedAt n v t) (first rest)
 unfolding first openedAt isNoVolume isNoDirectory isMissing
 target-first n v noVolume rest = refl
 target-first n v noDirectory rest = refl
 target-first n v (missing d) rest = refl
 target-first n v (there d s) rest = go (eqb s volume)
   where
-    go : (b : Bool) → first rest ≡ openedOr (elim b as (λ _. Opened) [ true ↦ opened.Volume n | false ↦ opened.Entry n (placeOf s) (entryOf v (at s)) ]) (first rest)
+    go : (b : Bool) → first rest ≡ openedOr (elim b as (λ _. Opened) [ true ↦ opened.Volume n | false ↦ opened.Entry n (homeOf v d) (placeOf s) (entryOf v (at s)) ]) (first rest)
     go true = refl
     go false = refl
 
@@ -63,15 +64,15 @@ opened-first len v p k rest = volume-first len v _ ∙ after (volumeIn len v)
 pub data Seen (len : ℕ) (v p : Bytes) (k : ℕ) : Opened → Type 0 where
   refused : (r : Refusal) → openedBy len v p k ≡ opened.Refused r → Seen len v p k (opened.Refused r)
   on-volume : (d : ℕ) → Fits len v (total len) → target v p k ≡ there d volume → Seen len v p k (opened.Volume (total len))
-  on-entry : (d s : ℕ) → Fits len v (total len) → target v p k ≡ there d s → (s ≡ volume → ⊥) → Seen len v p k (opened.Entry (total len) (placeOf s) (entryOf v (at s)))
+  on-entry : (d s : ℕ) → Fits len v (total len) → target v p k ≡ there d s → (s ≡ volume → ⊥) → Seen len v p k (opened.Entry (total len) (homeOf v d) (placeOf s) (entryOf v (at s)))
 
 pub seen : (len : ℕ) (v p : Bytes) (k : ℕ) → Seen len v p k (openedBy len v p k)
 unfolding openedOn volumeIn openedAt
 seen len v p k = whole (wholeBlocks len and prodos (total len) v) (sound (total len) v) (properPath p k) refl refl refl
   where
     found : (b : Bool) (d s : ℕ) → Fits len v (total len) → target v p k ≡ there d s → eqb s volume ≡ b
-        → (openedBy len v p k ≡ elim b as (λ _. Opened) [ true ↦ opened.Volume (total len) | false ↦ opened.Entry (total len) (placeOf s) (entryOf v (at s)) ])
-        → Seen len v p k (elim b as (λ _. Opened) [ true ↦ opened.Volume (total len) | false ↦ opened.Entry (total len) (placeOf s) (entryOf v (at s)) ])
+        → (openedBy len v p k ≡ elim b as (λ _. Opened) [ true ↦ opened.Volume (total len) | false ↦ opened.Entry (total len) (homeOf v d) (placeOf s) (entryOf v (at s)) ])
+        → Seen len v p k (elim b as (λ _. Opened) [ true ↦ opened.Volume (total len) | false ↦ opened.Entry (total len) (homeOf v d) (placeOf s) (entryOf v (at s)) ])
     found true d s h t e q = on-volume d h (t ∙ ap (there d) (eqb-true s volume e))
     found false d s h t e q = on-entry d s h t (eqb-false s volume e)
 

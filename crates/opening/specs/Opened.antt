@@ -8,14 +8,12 @@ use Rattle.model.specs.Directory.{at, volume, Target, noVolume, noDirectory, mi
 use Rattle.model.specs.Sound.{wholeBlocks, prodos, sound}
 use Rattle.model.specs.Calls.{total, target}
 use Rattle.model.specs.declared.Refusal.the-variants.{NotProdos, NotSound, BadPath, NoVolume, NoDirectory, NotFound}
-use Rattle.model.specs.Kinds.{kindNumber}
-use Rattle.model.specs.declared.Info.{Info}
-use Rattle.model.specs.declared.Entry.{Entry}
 use Rattle.directory.specs.Slots.{placeOf, entryOf}
-use Rattle.calls.specs.declared.Volume.{Volume}
-use Rattle.calls.specs.declared.Volume.the-variants as volumes
-use Rattle.calls.specs.declared.Opened.{Opened}
-use Rattle.calls.specs.declared.Opened.the-variants as opened
+use Rattle.directory.specs.Lookup.{homeOf}
+use Rattle.opening.specs.declared.Volume.{Volume}
+use Rattle.opening.specs.declared.Volume.the-variants as volumes
+use Rattle.opening.specs.declared.Opened.{Opened}
+use Rattle.opening.specs.declared.Opened.the-variants as opened
 
 -- an image of len bytes: a sound volume of so many blocks, or $52, or $5A
 unfoldable pub volumeIn : ℕ → Bytes → Volume
@@ -30,7 +28,7 @@ unfoldable pub openedAt : ℕ → Bytes → Target → Opened
 openedAt n v noVolume = opened.Refused NoVolume
 openedAt n v noDirectory = opened.Refused NoDirectory
 openedAt n v (missing d) = opened.Refused NotFound
-openedAt n v (there d s) = elim (eqb s volume) [ true ↦ opened.Volume n | false ↦ opened.Entry n (placeOf s) (entryOf v (at s)) ]
+openedAt n v (there d s) = elim (eqb s volume) [ true ↦ opened.Volume n | false ↦ opened.Entry n (homeOf v d) (placeOf s) (entryOf v (at s)) ]
 
 unfoldable pub openedOn : Volume → Bytes → Bytes → ℕ → Opened
 openedOn (volumes.Refused r) v p k = opened.Refused r
@@ -39,7 +37,3 @@ openedOn (volumes.Sound n) v p k = elim (properPath p k) [ true ↦ openedAt n v
 -- the path p of k bytes on an image of len bytes
 abbrev pub openedBy : ℕ → Bytes → Bytes → ℕ → Opened
 openedBy len v p k = openedOn (volumeIn len v) v p k
-
--- what get info tells of an entry, from the decoded entry
-abbrev pub told : Entry → Info
-told x = record { kind = kindNumber (x .kind); ftype = x .ftype; access = x .access; aux = x .aux; used = x .used; eof = x .eof; created = x .created; modified = x .modified }

@@ -1,13 +1,13 @@
--- `calls::opened_at` meets its contract: each answer of the lookup is one case of the target. Assumes nothing.
+-- `opening::opened_at` meets its contract: each answer of the lookup is one case of the target. Assumes nothing.
 use mathlib.Core.Path.{sym, ap, _∙_}
 use lib.ListN.{length}
 use borrow.Author.Needs.{needs}
 use Rattle.model.specs.Bytes.{view}
 use Rattle.model.specs.Calls.{target}
-use Rattle.calls.proofs.SaneLaws.{sane}
-use Rattle.calls.proofs.CodeLaws.{openedFrom, opened-from}
-use Rattle.calls.proofs.opened_at.Statement.{statement}
-use Rattle.calls.proofs.opened_at.Tie as tie
+use Rattle.opening.proofs.SaneLaws.{sane}
+use Rattle.opening.proofs.CodeLaws.{openedFrom, opened-from}
+use Rattle.opening.proofs.opened_at.Statement.{statement}
+use Rattle.opening.proofs.opened_at.Tie as tie
 
 lookup-requires : tie.Need-lookup-requires
 lookup-requires c κs =
@@ -23,8 +23,8 @@ enum-told-2 c = search needs
 enum-told-3 : tie.Need-enum-told-3
 enum-told-3 c = search needs
 
-enum-known-place : tie.Need-enum-known-place
-enum-known-place c = search needs
+enum-known-home : tie.Need-enum-known-home
+enum-known-home c = search needs
 
 enum-told-4 : tie.Need-enum-told-4
 enum-told-4 c = search needs
@@ -51,7 +51,7 @@ returns-4 : tie.Need-returns-4
 returns-4 c =
     let a = c .before .before .before .before .before .before .args in
     let v = view (a .img .now) in
-    ap (openedFrom (a .n)) (sym (c .before .place .given .1) ∙ c .before .before .before .lookup .ensures) ∙ opened-from (a .n) v (target v (view (a .path .now)) (length (a .path .now)))
+    ap (openedFrom (a .n)) (sym (c .before .home .given .1) ∙ c .before .before .before .lookup .ensures) ∙ opened-from (a .n) v (target v (view (a .path .now)) (length (a .path .now)))
 
 returns-5 : tie.Need-returns-5
 returns-5 c =
@@ -67,7 +67,7 @@ opened-at-spec =
     enum-told
     enum-told-2
     enum-told-3
-    enum-known-place
+    enum-known-home
     enum-told-4
     returns
     returns-2

@@ -1,13 +1,13 @@
--- `calls::volume_in` meets its contract: each branch is one row of the table, $52 or $5A, or neither. Assumes nothing.
+-- `opening::volume_in` meets its contract: each branch is one row of the table, $52 or $5A, or neither. Assumes nothing.
 use mathlib.Core.Path.{sym, _∙_}
 use lib.ListN.{length}
 use native.Mathlib.Omega.{arith}
 use borrow.Author.Tests.{not-true, not-false}
 use borrow.Author.Needs.{needs}
 use Rattle.model.specs.Bytes.{view}
-use Rattle.calls.proofs.CodeLaws.{volume-unfit, volume-other, whole, volume-bad, volume-good}
-use Rattle.calls.proofs.volume_in.Statement.{statement}
-use Rattle.calls.proofs.volume_in.Tie as tie
+use Rattle.opening.proofs.CodeLaws.{volume-unfit, volume-other, whole, volume-bad, volume-good}
+use Rattle.opening.proofs.volume_in.Statement.{statement}
+use Rattle.opening.proofs.volume_in.Tie as tie
 
 returns : tie.Need-returns
 returns c = let l = c .before .before .args .img .now in sym (volume-unfit (length l) (view l) (λ r a b. c .if1 .taken r))

@@ -1,0 +1,3 @@
+-- What the contracts of opening cite.
+pub mod Opened
+pub mod Sorts
