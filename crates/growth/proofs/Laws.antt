@@ -17,7 +17,7 @@ use Rattle.model.specs.Grow.{zeroedFrom, topped, raised, raisedKey}
 use Rattle.model.specs.Write.{noted, grown, grownKey}
 use Rattle.model.specs.Calls.{backedUp}
 use Rattle.model.specs.declared.Stamp.{Stamp}
-use Rattle.model.proofs.BitLaws.{lowest-free, lowest-most, room-lowest, mapAt-in}
+use Rattle.model.proofs.BitLaws.{lowest-free, lowest-from, room-lowest, mapAt-in}
 use Rattle.model.proofs.Laws.Weigh.{weigh, each, size, nodes-length}
 use Rattle.model.proofs.Laws.Move.{Fit, Move, move-fit, fit-key, fit-below}
 use Rattle.model.proofs.Laws.Take.{topped-move, topped-weigh}
@@ -34,6 +34,9 @@ map-fits n l = omega arith
 
 pub bit-fits : (n b : ℕ) → 16 ≤ n → b < n → mapAt mapPlace b < n * 512
 bit-fits n b l m = omega (arith, mapAt-in mapPlace n b m, map-fits n l)
+
+pub first-lowest : (w : Bytes) (n : ℕ) → firstFree mapPlace w 0 (n - 0) ≡ lowest mapPlace w n
+first-lowest w n = sym (lowest-from mapPlace w n 0 (omega arith) (λ c l. absurd (omega arith)))
 
 -- all blocks of a tree are on the volume
 pub fit-deep : {n : ℕ} {w : Bytes} (h : ℕ) {q k : ℕ} → Fit n w h q k → Deep n w h k
@@ -107,11 +110,11 @@ module _ (n tall goal k : ℕ) (w : Bytes) where
   abbrev topped-by : Bytes
   topped-by = topped mapPlace w k low
 
-  pub raised-step : tall < goal → raised mapPlace n topped-by low (goal - (tall + 1)) ≡ raised mapPlace n w k (goal - tall)
+  raised-step : tall < goal → raised mapPlace n topped-by low (goal - (tall + 1)) ≡ raised mapPlace n w k (goal - tall)
   unfolding raised
   raised-step l = let e : goal - tall ≡ suc (goal - (tall + 1)) = omega arith in rw (e, raised) refl
 
-  pub key-step : tall < goal → raisedKey mapPlace n topped-by low (goal - (tall + 1)) ≡ raisedKey mapPlace n w k (goal - tall)
+  key-step : tall < goal → raisedKey mapPlace n topped-by low (goal - (tall + 1)) ≡ raisedKey mapPlace n w k (goal - tall)
   unfolding raisedKey
   key-step l = let e : goal - tall ≡ suc (goal - (tall + 1)) = omega arith in rw (e, raisedKey) refl
 
@@ -130,24 +133,32 @@ module _ (n tall goal k : ℕ) (w : Bytes) where
     step : Move n w tall 0 k topped-by (suc tall) 0 low
     step = topped-move F low low-in (lowest-free mapPlace w n low-in)
 
-    pub fit-step : Fit n topped-by (tall + 1) 0 low
+    fit-step : Fit n topped-by (tall + 1) 0 low
     fit-step = rw (add-one tall) (move-fit F step)
 
-    pub room-step : goal - (tall + 1) ≤ room mapPlace topped-by n
+    room-step : goal - (tall + 1) ≤ room mapPlace topped-by n
     room-step = omega (arith, move-room F step, topped-weigh F low low-in (lowest-free mapPlace w n low-in) (each (λ _. 1)))
+
+    -- one key more: the image x and the key z
+    pub raise-on : (x : Bytes) (z : ℕ) → z ≡ low → x ≡ topped mapPlace w k z
+        → Fit n x (tall + 1) 0 z
+        × (goal - (tall + 1) ≤ room mapPlace x n)
+        × (raised mapPlace n x z (goal - (tall + 1)) ≡ raised mapPlace n w k (goal - tall))
+        × (raisedKey mapPlace n x z (goal - (tall + 1)) ≡ raisedKey mapPlace n w k (goal - tall))
+    raise-on x z ez ex = rw (ex, ez) (fit-step, room-step, raised-step l, key-step l)
 
 -- The whole of growing.
 module _ {n : ℕ} {v : Bytes} {h k : ℕ} (F : Fit n v h 0 k) (o e : ℕ) (tall : h ≡ heightFor o) (small : o < 16777216) where
   zero-still : Move n v h 0 k (zeroedFrom v h k o) h 0 k
   zero-still = zeroed F o (λ r l. rw tall (height-path o r small l)) .still .move
 
-  pub zero-fit : Fit n (zeroedFrom v h k o) h 0 k
-  zero-fit = move-fit F zero-still
+  pub zero-fit : (x : Bytes) → x ≡ zeroedFrom v h k o → Fit n x h 0 k
+  zero-fit x ex = rw ex (move-fit F zero-still)
 
-  pub zero-room : room mapPlace (zeroedFrom v h k o) n ≡ room mapPlace v n
-  zero-room =
+  pub zero-room : (x : Bytes) → x ≡ zeroedFrom v h k o → room mapPlace x n ≡ room mapPlace v n
+  zero-room x ex =
       let Z = zeroed F o (λ r l. rw tall (height-path o r small l)) .still in
-      omega (arith, Z .weights (each (λ _. 1)), move-room F (Z .move))
+      rw ex (omega (arith, Z .weights (each (λ _. 1)), move-room F (Z .move)))
 
   pub grown-same : e ≤ o → v ≡ grownFrom mapPlace n v h k o e
   unfolding grownFrom
@@ -197,4 +208,3 @@ backed-is x e = rw e (omega arith)
 pub backed-more : (x : ℕ) → (x / 32 % 2 ≡ 1 → ⊥) → x + 32 ≡ backedUp x
 unfolding backedUp
 backed-more x e = let z : x / 32 % 2 ≡ 0 = omega arith in rw z (omega arith)
-

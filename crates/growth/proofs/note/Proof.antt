@@ -1,43 +1,46 @@
+-- `growth::note` meets its contract: what is not free is used; then the file's fields, access and stamp. Assumes nothing.
+use Prim.Native.Nat.{_+_, _-_, _*_, _%_}
+use mathlib.Core.Path.{ap, _∙_}
+use Rattle.model.specs.Bytes.{view, put, putWord, putLong}
+use Rattle.model.specs.Calls.{putStamp, backedUp}
+use Rattle.growth.specs.Growth.{notedAs}
+use Rattle.growth.proofs.Laws.{map-fits}
+use native.Mathlib.Omega.{arith}
 use borrow.Author.Needs.{needs}
 use Rattle.growth.proofs.note.Statement.{statement}
 use Rattle.growth.proofs.note.Tie as tie
-use Rattle.growth.proofs.note.Reads as reads
-use Rattle.growth.proofs.note.Lts as lts
-use Rattle.growth.proofs.note_change.Reads as note-change-reads
-use Rattle.growth.proofs.note_file.Reads as note-file-reads
-use Rattle.map.proofs.free_blocks.Reads as free-blocks-reads
 
--- src/lib.rt:172:27
 free-blocks-requires : tie.Need-free-blocks-requires
-free-blocks-requires c κs = search needs
+free-blocks-requires c κs = (omega arith, omega (arith, map-fits (c .before .before .args .n) (c .before .before .pre .0 .0)))
 
--- src/lib.rt:172:16
 sub-used : tie.Need-sub-used
 sub-used c = search needs
 
--- src/lib.rt:173:22
 add-access : tie.Need-add-access
 add-access c = search needs
 
--- src/lib.rt:173:18
 slice-read-access : tie.Need-slice-read-access
 slice-read-access c = search needs
 
--- src/lib.rt:174:5
 note-file-requires : tie.Need-note-file-requires
 note-file-requires c κs = search needs
 
--- src/lib.rt:175:5
 note-change-requires : tie.Need-note-change-requires
 note-change-requires c κs = search needs
 
--- src/lib.rt:158:1
 same-length : tie.Need-same-length
 same-length c = search needs
 
--- src/lib.rt:158:1
 returns : tie.Need-returns
-returns c = search needs
+unfolding notedAs
+returns c =
+    let a = c .before .before .before .before .before .before .before .before .before .before .before .before .args in
+    let v = view (a .img .now) in
+    c .before .before .note-change .ensures
+    ∙ ap (λ f. putStamp (put f (a .at + 0x1E) (backedUp (v (a .at + 0x1E)))) (a .at + 0x21) (a .stamp))
+    (c .before .before .before .before .before .before .note-file .ensures
+    ∙ ap (λ u. putLong (putWord (putWord (put v (a .at) ((a .height + 1) * 16 + v (a .at) % 16)) (a .at + 0x11) (a .key)) (a .at + 0x13) (a .together - u)) (a .at + 0x15) (a .eof))
+    (c .before .before .before .before .before .before .before .before .before .free-blocks .ensures .0))
 
 pub note-spec : {M : Type 1} → statement M
 note-spec =

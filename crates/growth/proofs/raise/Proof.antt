@@ -1,18 +1,17 @@
+-- `growth::raise` meets its contract: what is left to take gives the same file; the measure is the height left. Assumes nothing.
 use Prim.Native.Nat.{_-_, _*_, _≤_}
 use mathlib.Core.Path.{_≡_, refl, sym, ap, _∙_}
 use lib.ListN.{length}
 use Rattle.model.specs.Bytes.{view}
 use Rattle.model.specs.Map.{room}
 use Rattle.model.specs.Directory.{mapPlace}
-use Rattle.model.specs.Grow.{raised, raisedKey}
+use Rattle.model.specs.Grow.{topped, raised, raisedKey}
 use Rattle.model.proofs.Laws.Move.{Fit}
+use Rattle.growth.proofs.Laws.{raised-none, key-none, low-in, raise-on}
 use native.Mathlib.Omega.{arith}
 use borrow.Author.Needs.{needs}
 use Rattle.growth.proofs.raise.Statement.{statement}
 use Rattle.growth.proofs.raise.Tie as tie
-use Rattle.growth.proofs.raise.Reads as reads
-use Rattle.growth.proofs.raise.Lts as lts
-use Rattle.growth.proofs.top.Reads as top-reads
 
 abbrev Inv-loop : tie.InvT-loop
 Inv-loop img₀ n height goal key above₀ tall₀ img above tall =
@@ -25,33 +24,36 @@ Inv-loop img₀ n height goal key above₀ tall₀ img above tall =
 abbrev μ-loop : tie.MeasureT-loop
 μ-loop img₀ n height goal key above₀ tall₀ img above tall = goal - tall
 
--- src/lib.rt:90:5
 loop-holds : tie.Need-loop-holds Inv-loop μ-loop
-loop-holds c = search needs
+loop-holds c = (c .before .pre .0, c .before .pre .1, c .before .pre .2, refl, refl)
 
--- src/lib.rt:91:9
 top-requires : tie.Need-top-requires Inv-loop μ-loop
-top-requires c κs = search needs
+top-requires c κs =
+    let l = c .before .before .loop in
+    (l .inv .1 .large, l .inv .1 .small, l .inv .0, low-in (c .before .before .before .before .args .n) (l .tall) (c .before .before .before .before .args .goal) (l .above) (view (l .img)) (l .inv .1) (c .before .loop-test .taken) (l .inv .2))
 
--- src/lib.rt:92:9
 add-tall : tie.Need-add-tall Inv-loop μ-loop
 add-tall c = search needs
 
--- src/lib.rt:90:5
 loop-less : tie.Need-loop-less Inv-loop μ-loop
 loop-less c = search needs
 
--- src/lib.rt:90:5
 loop-again : tie.Need-loop-again Inv-loop μ-loop
-loop-again c = search needs
+loop-again c =
+    let a = c .before .before .before .before .before .before .before .args in
+    let l = c .before .before .before .before .before .loop in
+    let r = raise-on (a .n) (l .tall) (a .goal) (l .above) (view (l .img)) (l .inv .1) (c .before .before .before .before .loop-test .taken) (l .inv .2) _ _ (c .before .before .top .ensures .0) (c .before .before .top .ensures .1) in
+    (omega (arith, c .before .before .top .kept), r .0, r .1, r .2 ∙ l .inv .3, r .3 ∙ l .inv .4)
 
--- src/lib.rt:83:1
 same-length : tie.Need-same-length Inv-loop μ-loop
 same-length c = search needs
 
--- src/lib.rt:83:1
 returns : tie.Need-returns Inv-loop μ-loop
-returns c = search needs
+returns c =
+    let a = c .before .before .before .args in
+    let l = c .before .loop in
+    let e : a .goal ≤ l .tall = omega arith in
+    (sym (raised-none (a .n) (l .tall) (a .goal) (l .above) (view (l .img)) e) ∙ l .inv .3, sym (key-none (a .n) (l .tall) (a .goal) (l .above) (view (l .img)) e) ∙ l .inv .4)
 
 pub raise-spec : {M : Type 1} → statement M
 raise-spec =
