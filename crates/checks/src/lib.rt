@@ -368,7 +368,8 @@ fn unlike_by_order(
 ) -> bool
     requires { ⌜ Readable n (now img) × Inside n (chain (view (now img)) key used) ⌝ }
     requires { ⌜ active (view (now img)) (drop 1 (slots (chain (view (now img)) key used))) < length (now list) ⌝ }
-    requires { ⌜ (length (now list) ≤ length (now x)) × (length (now list) ≤ length (now y)) ⌝ }
+    requires { ⌜ active (view (now img)) (drop 1 (slots (chain (view (now img)) key used))) < length (now x) ⌝ }
+    requires { ⌜ active (view (now img)) (drop 1 (slots (chain (view (now img)) key used))) < length (now y) ⌝ }
     ensures { λ r. ⌜ r ≡ eqb (twins (view (now (img .entry))) (drop 1 (slots (chain (view (now (img .entry))) key used)))) 0 ⌝ }
 {
     if used == 0 {
@@ -385,83 +386,34 @@ fn unlike_by_order(
     each_with_each(img, n, key, used)
 }
 
-// The same in scratch for fewer than 1024 entries.
-fn unlike_within_1024(
+// No two active entries of a directory of `used` blocks have one name. In a few blocks each is compared with each, in more they are put in order.
+// The last three are scratch, each with a place more than there are entries: where one is shorter, each is compared with each again.
+pub fn unlike(
     img: &[u8],
     n: usize,
     key: usize,
     used: usize,
-    list: &mut [u32; 1024],
-    x: &mut [u32; 1024],
-    y: &mut [u32; 1024],
+    list: &mut [u32],
+    x: &mut [u32],
+    y: &mut [u32],
 ) -> bool
-    requires { ⌜ Readable n (now img) × Inside n (chain (view (now img)) key used) ⌝ }
-    requires { ⌜ active (view (now img)) (drop 1 (slots (chain (view (now img)) key used))) < 1024 ⌝ }
-    ensures { λ r. ⌜ r ≡ eqb (twins (view (now (img .entry))) (drop 1 (slots (chain (view (now (img .entry))) key used)))) 0 ⌝ }
-{
-    unlike_by_order(img, n, key, used, list, x, y)
-}
-
-// The same, with that scratch of its own: 12 KB of the stack.
-fn unlike_below_1024(img: &[u8], n: usize, key: usize, used: usize) -> bool
-    requires { ⌜ Readable n (now img) × Inside n (chain (view (now img)) key used) ⌝ }
-    requires { ⌜ active (view (now img)) (drop 1 (slots (chain (view (now img)) key used))) < 1024 ⌝ }
-    ensures { λ r. ⌜ r ≡ eqb (twins (view (now (img .entry))) (drop 1 (slots (chain (view (now (img .entry))) key used)))) 0 ⌝ }
-{
-    let mut list = [0u32; 1024];
-    let mut x = [0u32; 1024];
-    let mut y = [0u32; 1024];
-    unlike_within_1024(img, n, key, used, &mut list, &mut x, &mut y)
-}
-
-// The same in scratch for fewer than 8192 entries.
-fn unlike_within_8192(
-    img: &[u8],
-    n: usize,
-    key: usize,
-    used: usize,
-    list: &mut [u32; 8192],
-    x: &mut [u32; 8192],
-    y: &mut [u32; 8192],
-) -> bool
-    requires { ⌜ Readable n (now img) × Inside n (chain (view (now img)) key used) ⌝ }
-    requires { ⌜ active (view (now img)) (drop 1 (slots (chain (view (now img)) key used))) < 8192 ⌝ }
-    ensures { λ r. ⌜ r ≡ eqb (twins (view (now (img .entry))) (drop 1 (slots (chain (view (now (img .entry))) key used)))) 0 ⌝ }
-{
-    unlike_by_order(img, n, key, used, list, x, y)
-}
-
-// The same, with that scratch of its own: 96 KB of the stack, so little because a compiler may put it into each of the walk's 32 levels.
-fn unlike_below_8192(img: &[u8], n: usize, key: usize, used: usize) -> bool
-    requires { ⌜ Readable n (now img) × Inside n (chain (view (now img)) key used) ⌝ }
-    requires { ⌜ active (view (now img)) (drop 1 (slots (chain (view (now img)) key used))) < 8192 ⌝ }
-    ensures { λ r. ⌜ r ≡ eqb (twins (view (now (img .entry))) (drop 1 (slots (chain (view (now (img .entry))) key used)))) 0 ⌝ }
-{
-    let mut list = [0u32; 8192];
-    let mut x = [0u32; 8192];
-    let mut y = [0u32; 8192];
-    unlike_within_8192(img, n, key, used, &mut list, &mut x, &mut y)
-}
-
-// No two active entries of a directory of `used` blocks have one name. Few are compared each with each, more are put in order;
-// a directory of 8,192 entries or more is compared each with each again, for want of scratch.
-pub fn unlike(img: &[u8], n: usize, key: usize, used: usize) -> bool
     requires { ⌜ Readable n (now img) ⌝ }
     requires { ⌜ Inside n (chain (view (now img)) key used) ⌝ }
     ensures { λ r. ⌜ r ≡ eqb (twins (view (now (img .entry))) (drop 1 (slots (chain (view (now (img .entry))) key used)))) 0 ⌝ }
 {
+    if used < 5 {
+        return each_with_each(img, n, key, used);
+    }
     if 65535 < used {
         return each_with_each(img, n, key, used);
     }
     let count = count_active(img, n, key, used);
-    if count < 32 {
-        return each_with_each(img, n, key, used);
-    }
-    if count < 1024 {
-        return unlike_below_1024(img, n, key, used);
-    }
-    if count < 8192 {
-        return unlike_below_8192(img, n, key, used);
+    if count < list.len() {
+        if count < x.len() {
+            if count < y.len() {
+                return unlike_by_order(img, n, key, used, list, x, y);
+            }
+        }
     }
     each_with_each(img, n, key, used)
 }

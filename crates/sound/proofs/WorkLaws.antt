@@ -22,7 +22,7 @@ use Rattle.model.specs.declared.Kind.{Kind}
 use Rattle.model.specs.declared.Kind.the-variants.{Seedling, Sapling, Tree, Directory}
 use Rattle.claims.specs.Claims.{Claim, block, must, Seen, claim, outcome, chainClaims, treeClaims, fileClaims, directoryClaims, claimsOf, claimsAt, claims, volumeClaims, reserved, mapRight, fits}
 use Rattle.claims.proofs.TestLaws.{decide, none-off, and-true}
-use Rattle.claims.proofs.ClaimLaws.{taken, refused, must-on, must-off, claims-deep, claims-flat, claims-none}
+use Rattle.claims.proofs.ClaimLaws.{then, claim-append, taken, refused, must-on, must-off, claims-deep, claims-flat, claims-none}
 use Rattle.claims.proofs.Agreement.{chain-inside}
 use Rattle.checks.specs.Inside.{Inside, ahead}
 use Rattle.checks.proofs.Laws.{ahead-step, ahead-end, slots-chain, entries-chain}
@@ -31,7 +31,7 @@ use Rattle.directory.specs.Slots.{kindOf, entryOf, slotSays}
 use Rattle.directory.specs.declared.Slot.the-variants.{Active}
 use Rattle.directory.specs.Search.{listed}
 use Rattle.directory.proofs.SlotLaws.{says-active, entry-kind, entry-used, entry-eof, entry-ftype}
-use Rattle.sound.specs.Work.{volumeEntry, standing, Stands, Describes, fileWork, chainWork, entryWork, listWork, Opened, Leads}
+use Rattle.sound.specs.Work.{volumeEntry, standing, Stands, Describes, fileWork, chainWork, namesWork, ownWork, entryWork, listWork, directoryWork, Opened, Leads}
 use Rattle.sound.specs.declared.Own.{Own}
 use Rattle.sound.specs.declared.Own.the-variants.{Wrong, Whole, Inner}
 
@@ -54,6 +54,20 @@ module _ (n : ℕ) where
   unfolding claim _and_
   three cs s true b c = two cs s b c
   three cs s false b c = refl
+
+  -- a test may be made last
+  pub test-last : (cs : List Claim) (s : Seen) (t : Bool) → claim n (cs ++ (must t ∷ [])) s ≡ then (outcome t s) (claim n cs)
+  unfolding claim
+  test-last cs s true = claim-append n cs _ s ∙ kept (claim n cs s)
+    where
+      kept : (o : Option Seen) → then o (λ s. some s) ≡ o
+      kept none = refl
+      kept (some s) = refl
+  test-last cs s false = claim-append n cs _ s ∙ lost (claim n cs s)
+    where
+      lost : (o : Option Seen) → then o (λ s. none) ≡ none
+      lost none = refl
+      lost (some s) = refl
 
 -- An answer that is known.
 module _ (s : Seen) (r : Bool) (o : Option Seen) (answer : outcome r s ≡ o) where
@@ -113,7 +127,7 @@ unfolding Inside sum
 inside-of n [] o = tt
 inside-of n (b ∷ bs) o = (leb-false n b (none-off (leb n b) (omega arith)), inside-of n bs (omega arith))
 
--- A directory's chain was claimed or refused, then its header and its names are tested.
+-- A directory's chain was claimed or refused, then its header is tested.
 module _ (n : ℕ) (v : Bytes) (place k u : ℕ) (s s′ : Seen) (r : Bool) (answer : outcome r s′ ≡ claim n (chainClaims v 0 k u) s) where
   pub chain-refused : r ≡ false → none ≡ claim n (chainWork v place k u) s
   unfolding chainWork
@@ -126,15 +140,11 @@ module _ (n : ℕ) (v : Bytes) (place k u : ℕ) (s s′ : Seen) (r : Bool) (ans
   unfolding chainWork
   top-wrong t f = sym (must-off n _ s′ _ f) ∙ sym (taken n _ _ s s′ r t answer)
 
-  pub names-left : (a : Bool) → r ≡ true → eqb (topFaults v place) 0 ≡ true
-      → a ≡ (eqb (activeCount v k) (active v (listed v k u)) and eqb (twins v (listed v k u)) 0)
+  pub count-left : (a : Bool) → r ≡ true → eqb (topFaults v place) 0 ≡ true → a ≡ eqb (activeCount v k) (active v (listed v k u))
       → outcome a s′ ≡ claim n (chainWork v place k u) s
   unfolding chainWork
-  names-left a t f e =
-      ap (λ (a : Bool). outcome a s′) e
-      ∙ must-last n s′ _
-      ∙ sym (two n [] s′ _ _)
-      ∙ sym (must-on n _ s′ _ f) ∙ sym (taken n _ _ s s′ r t answer)
+  count-left a t f e =
+      ap (λ (a : Bool). outcome a s′) e ∙ must-last n s′ _ ∙ sym (must-on n _ s′ _ f) ∙ sym (taken n _ _ s s′ r t answer)
 
 -- What stands at a place has the fields that the definitions read there.
 module _ (v : Bytes) (s : ℕ) where
@@ -273,9 +283,9 @@ pub directory-own : (v : Bytes) (l k s : ℕ) → sort v s ≡ directory
     → claimsOf directory v l k s
     ≡ must (not (eqb l 0)) ∷ must (capitalName v (at s)) ∷ must (eqb (directoryKey v s) k)
     ∷ must (eqb (ftype v s) directoryType) ∷ must (not (eqb (used v s) 0)) ∷ must (eqb (eof v s) (used v s * 512))
-    ∷ chainWork v s (key v s) (used v s)
+    ∷ ownWork v s (key v s) (used v s)
 unfolding claimsOf directoryClaims chainWork
-directory-own v l k s e = rw (directory-kids v s e)
+directory-own v l k s e = rw (directory-kids v s e, append-assoc (chainClaims v 0 (key v s) (used v s)))
 
 -- the fields of a directory, and those of a data file, as the entry has them
 directoryFits : Bytes → ℕ → Bool
@@ -305,7 +315,7 @@ module _ (n : ℕ) (v : Bytes) (l k s : ℕ) (seen : Seen) (d : sort v s ≡ dir
   parted : claim n (claimsOf directory v l k s) seen
       ≡ claim n (must (not (eqb l 0)) ∷ must (capitalName v (at s)) ∷ must (eqb (directoryKey v s) k)
       ∷ must (eqb (ftype v s) directoryType) ∷ must (not (eqb (used v s) 0)) ∷ must (eqb (eof v s) (used v s * 512))
-      ∷ chainWork v s (key v s) (used v s)) seen
+      ∷ ownWork v s (key v s) (used v s)) seen
   parted = ap (λ (cs : List Claim). claim n cs seen) (directory-own v l k s d)
 
   pub no-level : l ≡ 0 → none ≡ claim n (claimsOf directory v l k s) seen
@@ -313,7 +323,7 @@ module _ (n : ℕ) (v : Bytes) (l k s : ℕ) (seen : Seen) (d : sort v s ≡ dir
 
   module _ (level : l ≡ 0 → ⊥) (a : Bool) (named : a ≡ (capitalName v (at s) and eqb (directoryKey v s) k)) where
     levelled : claim n (must a ∷ must (eqb (ftype v s) directoryType) ∷ must (not (eqb (used v s) 0))
-        ∷ must (eqb (eof v s) (used v s * 512)) ∷ chainWork v s (key v s) (used v s)) seen
+        ∷ must (eqb (eof v s) (used v s * 512)) ∷ ownWork v s (key v s) (used v s)) seen
         ≡ claim n (claimsOf directory v l k s) seen
     levelled =
         rw named (sym (two n _ seen (capitalName v (at s)) (eqb (directoryKey v s) k)) ∙ sym (must-on n _ seen _ (rw (ne-eqb l 0 level))) ∙ sym parted)
@@ -323,21 +333,21 @@ module _ (n : ℕ) (v : Bytes) (l k s : ℕ) (seen : Seen) (d : sort v s ≡ dir
 
     module _ (e : Entry) (r : e ≡ standing v s) (right : a ≡ true) (f : Bool)
         (fields : f ≡ (eqb (e .ftype) directoryType and not (eqb (e .used) 0) and eqb (e .eof) (e .used * 512))) where
-      fitted : claim n (must f ∷ chainWork v s (key v s) (used v s)) seen ≡ claim n (claimsOf directory v l k s) seen
+      fitted : claim n (must f ∷ ownWork v s (key v s) (used v s)) seen ≡ claim n (claimsOf directory v l k s) seen
       unfolding directoryFits
       fitted =
-          ap (λ (f : Bool). claim n (must f ∷ chainWork v s (key v s) (used v s)) seen) (fields ∙ fields-read v s e r)
-          ∙ sym (three n (chainWork v s (key v s) (used v s)) seen (eqb (ftype v s) directoryType) (not (eqb (used v s) 0)) (eqb (eof v s) (used v s * 512)))
+          ap (λ (f : Bool). claim n (must f ∷ ownWork v s (key v s) (used v s)) seen) (fields ∙ fields-read v s e r)
+          ∙ sym (three n (ownWork v s (key v s) (used v s)) seen (eqb (ftype v s) directoryType) (not (eqb (used v s) 0)) (eqb (eof v s) (used v s * 512)))
           ∙ sym (must-on n _ seen a right) ∙ levelled
 
       pub misfit : f ≡ false → none ≡ claim n (claimsOf directory v l k s) seen
       misfit q = sym (must-off n _ seen f q) ∙ fitted
 
       pub chain-left : f ≡ true → (b : ℕ) → b ≡ key v s
-          → claim n (chainWork v s b (e .used)) seen ≡ claim n (claimsOf directory v l k s) seen
+          → claim n (ownWork v s b (e .used)) seen ≡ claim n (claimsOf directory v l k s) seen
       chain-left q b z =
-          ap (λ (b : ℕ). claim n (chainWork v s b (e .used)) seen) z
-          ∙ ap (λ (u : ℕ). claim n (chainWork v s (key v s) u) seen) (used-read v s e r)
+          ap (λ (b : ℕ). claim n (ownWork v s b (e .used)) seen) z
+          ∙ ap (λ (u : ℕ). claim n (ownWork v s (key v s) u) seen) (used-read v s e r)
           ∙ sym (must-on n _ seen f q) ∙ fitted
 
 -- The claims of a data file.
@@ -411,20 +421,34 @@ module _ (n : ℕ) (v : Bytes) (l k s : ℕ) (seen seen′ : Seen) (r : Bool) (a
       go (suc l) a = sym (ap (λ (ss : List ℕ). claim n (claimsOf (sort v s) v (suc l) k s ++ gather (entryWork v l (key v s)) ss) seen) e
           ∙ taken n (claimsOf (sort v s) v (suc l) k s) [] seen seen′ r t a)
 
-  pub entry-inner : r ≡ true → 0 < l → claim n (gather (entryWork v (l - 1) (key v s)) (kids v s)) seen′ ≡ claim n (entryWork v l k s) seen
+  pub entry-inner : 0 < l → claim n (gather (entryWork v (l - 1) (key v s)) (kids v s) ++ (must r ∷ [])) seen′ ≡ claim n (entryWork v l k s) seen
   unfolding entryWork
-  entry-inner t h = go l answer h
+  entry-inner h = go l answer h
     where
       go : (l : ℕ) → outcome r seen′ ≡ claim n (claimsOf (sort v s) v l k s) seen → 0 < l
-          → claim n (gather (entryWork v (l - 1) (key v s)) (kids v s)) seen′ ≡ claim n (entryWork v l k s) seen
+          → claim n (gather (entryWork v (l - 1) (key v s)) (kids v s) ++ (must r ∷ [])) seen′ ≡ claim n (entryWork v l k s) seen
       go zero a h = absurd (not-suc-le-zero h)
-      go (suc l) a h = rw sub-one (sym (taken n _ _ seen seen′ r t a))
+      go (suc l) a h =
+          rw sub-one
+          (test-last n _ seen′ r
+          ∙ ap (λ (o : Option Seen). then o (claim n (gather (entryWork v l (key v s)) (kids v s)))) a
+          ∙ sym (claim-append n (claimsOf (sort v s) v (suc l) k s) _ seen))
 
 pub inner-work : (n : ℕ) (v : Bytes) (l s k u : ℕ) (seen : Seen) → Opened n v l s k u
-    → claim n (listWork v (l - 1) k u) seen ≡ claim n (gather (entryWork v (l - 1) (key v s)) (kids v s)) seen
+    → claim n (directoryWork v (l - 1) k u) seen
+    ≡ claim n (gather (entryWork v (l - 1) (key v s)) (kids v s) ++ namesWork v k u) seen
 inner-work n v l s k u seen o =
-    ap (λ (ss : List ℕ). claim n (gather (entryWork v (l - 1) k) ss) seen) (sym (o .below))
-    ∙ ap (λ (b : ℕ). claim n (gather (entryWork v (l - 1) b) (kids v s)) seen) (o .start)
+    ap (λ (ss : List ℕ). claim n (gather (entryWork v (l - 1) k) ss ++ namesWork v k u) seen) (sym (o .below))
+    ∙ ap (λ (b : ℕ). claim n (gather (entryWork v (l - 1) b) (kids v s) ++ namesWork v k u) seen) (o .start)
+
+-- The entries of a directory with its names: one entry is wrong, or all are right.
+module _ (n : ℕ) (v : Bytes) (l k u : ℕ) (s s′ : Seen) where
+  pub list-wrong : none ≡ claim n (listWork v l k u) s → none ≡ claim n (directoryWork v l k u) s
+  list-wrong e = sym (refused n _ _ s s′ false refl e)
+
+  pub list-right : (a : Bool) → a ≡ eqb (twins v (listed v k u)) 0 → some s′ ≡ claim n (listWork v l k u) s
+      → outcome a s′ ≡ claim n (directoryWork v l k u) s
+  list-right a q e = ap (λ (a : Bool). outcome a s′) q ∙ must-last n s′ _ ∙ sym (taken n _ _ s s′ true refl e)
 
 -- The entries of a directory, one by one.
 module _ (n : ℕ) (v : Bytes) (l k place block after : ℕ) where

@@ -7,16 +7,15 @@ ghost use lib.Dec.{eqb};
 ghost use lib.ListN.{length};
 ghost use Rattle.model.specs.Bytes.{view, _and_};
 ghost use Rattle.model.specs.Names.{capitalName};
-ghost use Rattle.model.specs.Directory.{at, directory, file, sort, activeCount, active, directoryKey, directoryType, chain, mapPlace};
+ghost use Rattle.model.specs.Directory.{at, directory, file, sort, activeCount, active, directoryKey, directoryType, chain};
 ghost use Rattle.model.specs.File.{heightFor, span};
-ghost use Rattle.model.specs.Map.{restClear};
-ghost use Rattle.model.specs.Sound.{sound, topFaults, twins};
-ghost use Rattle.claims.specs.Claims.{claim, outcome, claimsOf, volumeClaims, reserved, fits};
-ghost use Rattle.marks.specs.Marks.{marks, nothing};
+ghost use Rattle.model.specs.Sound.{sound, topFaults};
+ghost use Rattle.claims.specs.Claims.{claim, outcome, claimsOf};
+ghost use Rattle.marks.specs.Marks.{marks};
 ghost use Rattle.checks.specs.Inside.{Inside, Readable};
 ghost use Rattle.directory.specs.Slots.{slotSays};
 ghost use Rattle.directory.specs.Search.{listed};
-ghost use Rattle.sound.specs.Work.{Ready, KeyAt, Stands, Describes, volumeEntry, standing, fileWork, chainWork, entryWork, listWork, rightOf, Leads};
+ghost use Rattle.sound.specs.Work.{Ready, Unclaimed, KeyAt, Stands, Describes, volumeEntry, standing, fileWork, chainWork, entryWork, directoryWork, rightOf, Leads, decision};
 use directory::Slot;
 use marks::Took;
 use model::Entry;
@@ -97,19 +96,16 @@ fn top_right(img: &[u8], n: usize, place: usize, key: usize) -> bool
     checks::header_right(img, n, place, key)
 }
 
-// The names of a directory: as many active entries as its header counts, and no two alike.
-fn names_right(img: &[u8], n: usize, key: usize, used: usize) -> bool
+// A directory has as many active entries as its header counts.
+fn count_right(img: &[u8], n: usize, key: usize, used: usize) -> bool
     requires { ⌜ Readable n (now img) × (key < n) × (used ≤ 65535) ⌝ }
     requires { ⌜ Inside n (chain (view (now img)) key used) ⌝ }
-    ensures { λ r. ⌜ r ≡ (eqb (activeCount (view (now (img .entry))) key) (active (view (now (img .entry))) (listed (view (now (img .entry))) key used)) and eqb (twins (view (now (img .entry))) (listed (view (now (img .entry))) key used)) 0) ⌝ }
+    ensures { λ r. ⌜ r ≡ eqb (activeCount (view (now (img .entry))) key) (active (view (now (img .entry))) (listed (view (now (img .entry))) key used)) ⌝ }
 {
-    if store::get_word(img, key * BLOCK + 0x25) != checks::count_active(img, n, key, used) {
-        return false;
-    }
-    checks::unlike(img, n, key, used)
+    store::get_word(img, key * BLOCK + 0x25) == checks::count_active(img, n, key, used)
 }
 
-// Claims the chain of the directory at a place; then its header and its names are tested.
+// Claims the chain of the directory at a place; then its header is tested.
 fn open_directory(
     img: &[u8],
     seen: &mut [u8],
@@ -128,7 +124,7 @@ fn open_directory(
     if !top_right(img, n, place, key) {
         return false;
     }
-    names_right(img, n, key, used)
+    count_right(img, n, key, used)
 }
 
 // The volume as an entry.
@@ -195,7 +191,7 @@ fn directory_right(entry: Entry) -> bool
     entry.eof as usize == entry.used as usize * BLOCK
 }
 
-// The claims of a directory by itself.
+// The claims of a directory by itself, but for its names.
 fn own_directory(
     img: &[u8],
     seen: &mut [u8],
@@ -208,7 +204,7 @@ fn own_directory(
 ) -> Own
     requires { ⌜ Ready n (now img) (now seen) × (place < n * 13) × (sort (view (now img)) place ≡ directory) ⌝ }
     requires { ⌜ Describes (view (now img)) place key entry ⌝ }
-    ensures { λ r. ⌜ outcome (rightOf r) (marks (now (seen .exit))) ≡ claim n (claimsOf directory (view (now (img .entry))) levels home place) (marks (now (seen .entry))) ⌝ }
+    ensures { λ r. ⌜ outcome (rightOf (view (now (img .entry))) r) (marks (now (seen .exit))) ≡ claim n (claimsOf directory (view (now (img .entry))) levels home place) (marks (now (seen .entry))) ⌝ }
     ensures { λ r. ⌜ Leads n (view (now (img .entry))) levels place r ⌝ }
 {
     if levels == 0 {
@@ -240,7 +236,7 @@ fn own_file(
 ) -> Own
     requires { ⌜ Ready n (now img) (now seen) × (place < n * 13) × (height < 3) × (sort (view (now img)) place ≡ file height) ⌝ }
     requires { ⌜ Describes (view (now img)) place key entry ⌝ }
-    ensures { λ r. ⌜ outcome (rightOf r) (marks (now (seen .exit))) ≡ claim n (claimsOf (file height) (view (now (img .entry))) 0 home place) (marks (now (seen .entry))) ⌝ }
+    ensures { λ r. ⌜ outcome (rightOf (view (now (img .entry))) r) (marks (now (seen .exit))) ≡ claim n (claimsOf (file height) (view (now (img .entry))) 0 home place) (marks (now (seen .entry))) ⌝ }
     ensures { λ r. ⌜ Leads n (view (now (img .entry))) 0 place r ⌝ }
 {
     if !entry_right(img, n, home, place) {
@@ -263,7 +259,7 @@ fn own_active(
     entry: Entry,
 ) -> Own
     requires { ⌜ Ready n (now img) (now seen) × (place < n * 13) × Stands (view (now img)) place entry ⌝ }
-    ensures { λ r. ⌜ outcome (rightOf r) (marks (now (seen .exit))) ≡ claim n (claimsOf (sort (view (now (img .entry))) place) (view (now (img .entry))) levels home place) (marks (now (seen .entry))) ⌝ }
+    ensures { λ r. ⌜ outcome (rightOf (view (now (img .entry))) r) (marks (now (seen .exit))) ≡ claim n (claimsOf (sort (view (now (img .entry))) place) (view (now (img .entry))) levels home place) (marks (now (seen .entry))) ⌝ }
     ensures { λ r. ⌜ Leads n (view (now (img .entry))) levels place r ⌝ }
 {
     let kind = entry.kind;
@@ -294,7 +290,7 @@ fn own_claims(
     place: usize,
 ) -> Own
     requires { ⌜ Ready n (now img) (now seen) × (place < n * 13) ⌝ }
-    ensures { λ r. ⌜ outcome (rightOf r) (marks (now (seen .exit))) ≡ claim n (claimsOf (sort (view (now (img .entry))) place) (view (now (img .entry))) levels home place) (marks (now (seen .entry))) ⌝ }
+    ensures { λ r. ⌜ outcome (rightOf (view (now (img .entry))) r) (marks (now (seen .exit))) ≡ claim n (claimsOf (sort (view (now (img .entry))) place) (view (now (img .entry))) levels home place) (marks (now (seen .entry))) ⌝ }
     ensures { λ r. ⌜ Leads n (view (now (img .entry))) levels place r ⌝ }
 {
     match stands_at(img, n, place) {
@@ -304,7 +300,7 @@ fn own_claims(
     }
 }
 
-// Whether a slot of a directory with the key `home` is sound, and all that is below it, with so many levels left.
+// Whether a slot of a directory with the key `home` is sound, and all that is below it, with so many levels left. The last three are scratch.
 fn sound_entry(
     img: &[u8],
     seen: &mut [u8],
@@ -312,6 +308,9 @@ fn sound_entry(
     levels: usize,
     home: usize,
     place: usize,
+    list: &mut [u32],
+    x: &mut [u32],
+    y: &mut [u32],
 ) -> bool
     requires { ⌜ Ready n (now img) (now seen) × (place < n * 13) ⌝ }
     ensures { λ r. ⌜ outcome r (marks (now (seen .exit))) ≡ claim n (entryWork (view (now (img .entry))) levels home place) (marks (now (seen .entry))) ⌝ }
@@ -319,11 +318,12 @@ fn sound_entry(
     match own_claims(img, seen, n, levels, home, place) {
         Own::Wrong => false,
         Own::Whole => true,
-        Own::Inner(key, used) => sound_directory(img, seen, n, levels - 1, key, used),
+        Own::Inner(key, used) => sound_directory(img, seen, n, levels - 1, key, used, list, x, y),
     }
 }
 
-// Whether the entries of a directory of `used` blocks are sound: its header, the first slot, is none of them.
+// Whether the entries of a directory of `used` blocks are sound: its header, the first slot, is none of them. Their names are compared last:
+// each active entry has claimed a block of its own then, so that there are fewer of them than blocks, as the scratch is made for.
 fn sound_directory(
     img: &[u8],
     seen: &mut [u8],
@@ -331,23 +331,26 @@ fn sound_directory(
     levels: usize,
     key: usize,
     used: usize,
+    list: &mut [u32],
+    x: &mut [u32],
+    y: &mut [u32],
 ) -> bool
     requires { ⌜ Ready n (now img) (now seen) × (0 < used) ⌝ }
     requires { ⌜ Inside n (chain (view (now img)) key used) ⌝ }
-    ensures { λ r. ⌜ outcome r (marks (now (seen .exit))) ≡ claim n (listWork (view (now (img .entry))) levels key used) (marks (now (seen .entry))) ⌝ }
+    ensures { λ r. ⌜ outcome r (marks (now (seen .exit))) ≡ claim n (directoryWork (view (now (img .entry))) levels key used) (marks (now (seen .entry))) ⌝ }
 {
     let mut block = key;
     let mut place = key * SLOTS + 1;
     let mut after = used - 1;
     loop {
         while place < block * SLOTS + SLOTS {
-            if !sound_entry(img, seen, n, levels, key, place) {
+            if !sound_entry(img, seen, n, levels, key, place, list, x, y) {
                 return false;
             }
             place += 1;
         }
         if after == 0 {
-            return true;
+            return checks::unlike(img, n, key, used, list, x, y);
         }
         block = store::get_word(img, block * BLOCK + 2);
         place = block * SLOTS;
@@ -355,19 +358,118 @@ fn sound_directory(
     }
 }
 
-// The walk from the volume on, then the map. Nothing is claimed yet.
-fn walk_fits(img: &[u8], seen: &mut [u8; 8192], n: usize) -> bool
-    requires { ⌜ (16 ≤ n) × Readable n (now img) × (marks (now seen) ≡ nothing) ⌝ }
-    ensures { λ r. ⌜ r ≡ (fits n (view (now (img .entry))) (claim n (volumeClaims (view (now (img .entry)))) (reserved n)) and restClear mapPlace (view (now (img .entry))) n) ⌝ }
+// The walk from the volume on, then the map. The last three are scratch.
+fn walk_fits(
+    img: &[u8],
+    seen: &mut [u8; 8192],
+    n: usize,
+    list: &mut [u32],
+    x: &mut [u32],
+    y: &mut [u32],
+) -> bool
+    requires { ⌜ Unclaimed n (now img) (now seen) ⌝ }
+    ensures { λ r. ⌜ r ≡ decision n (view (now (img .entry))) ⌝ }
 {
     marks::reserve(seen, n);
-    if !sound_entry(img, seen, n, LEVELS, VOLUME_BLOCK, VOLUME) {
+    if !sound_entry(img, seen, n, LEVELS, VOLUME_BLOCK, VOLUME, list, x, y) {
         return false;
     }
     if !marks::map_right(img, seen, n) {
         return false;
     }
     map::rest_clear(img, MAP_BLOCK, n)
+}
+
+// The same in scratch for a volume of fewer than 1,024 blocks.
+fn walk_in_1024(
+    img: &[u8],
+    seen: &mut [u8; 8192],
+    n: usize,
+    list: &mut [u32; 1024],
+    x: &mut [u32; 1024],
+    y: &mut [u32; 1024],
+) -> bool
+    requires { ⌜ Unclaimed n (now img) (now seen) ⌝ }
+    ensures { λ r. ⌜ r ≡ decision n (view (now (img .entry))) ⌝ }
+{
+    walk_fits(img, seen, n, list, x, y)
+}
+
+// The same, with that scratch made: 12 KB of the stack.
+fn walk_below_1024(img: &[u8], seen: &mut [u8; 8192], n: usize) -> bool
+    requires { ⌜ Unclaimed n (now img) (now seen) ⌝ }
+    ensures { λ r. ⌜ r ≡ decision n (view (now (img .entry))) ⌝ }
+{
+    let mut list = [0u32; 1024];
+    let mut x = [0u32; 1024];
+    let mut y = [0u32; 1024];
+    walk_in_1024(img, seen, n, &mut list, &mut x, &mut y)
+}
+
+// The same in scratch for a volume of fewer than 8,192 blocks.
+fn walk_in_8192(
+    img: &[u8],
+    seen: &mut [u8; 8192],
+    n: usize,
+    list: &mut [u32; 8192],
+    x: &mut [u32; 8192],
+    y: &mut [u32; 8192],
+) -> bool
+    requires { ⌜ Unclaimed n (now img) (now seen) ⌝ }
+    ensures { λ r. ⌜ r ≡ decision n (view (now (img .entry))) ⌝ }
+{
+    walk_fits(img, seen, n, list, x, y)
+}
+
+// The same, with that scratch made: 96 KB of the stack.
+fn walk_below_8192(img: &[u8], seen: &mut [u8; 8192], n: usize) -> bool
+    requires { ⌜ Unclaimed n (now img) (now seen) ⌝ }
+    ensures { λ r. ⌜ r ≡ decision n (view (now (img .entry))) ⌝ }
+{
+    let mut list = [0u32; 8192];
+    let mut x = [0u32; 8192];
+    let mut y = [0u32; 8192];
+    walk_in_8192(img, seen, n, &mut list, &mut x, &mut y)
+}
+
+// The same in scratch for a volume of fewer than 65,536 blocks.
+fn walk_in_65536(
+    img: &[u8],
+    seen: &mut [u8; 8192],
+    n: usize,
+    list: &mut [u32; 65536],
+    x: &mut [u32; 65536],
+    y: &mut [u32; 65536],
+) -> bool
+    requires { ⌜ Unclaimed n (now img) (now seen) ⌝ }
+    ensures { λ r. ⌜ r ≡ decision n (view (now (img .entry))) ⌝ }
+{
+    walk_fits(img, seen, n, list, x, y)
+}
+
+// The same, with that scratch made: 768 KB of the stack.
+fn walk_below_65536(img: &[u8], seen: &mut [u8; 8192], n: usize) -> bool
+    requires { ⌜ Unclaimed n (now img) (now seen) ⌝ }
+    ensures { λ r. ⌜ r ≡ decision n (view (now (img .entry))) ⌝ }
+{
+    let mut list = [0u32; 65536];
+    let mut x = [0u32; 65536];
+    let mut y = [0u32; 65536];
+    walk_in_65536(img, seen, n, &mut list, &mut x, &mut y)
+}
+
+// The same, with scratch by the volume's size, made once for all its directories.
+fn walk(img: &[u8], seen: &mut [u8; 8192], n: usize) -> bool
+    requires { ⌜ Unclaimed n (now img) (now seen) ⌝ }
+    ensures { λ r. ⌜ r ≡ decision n (view (now (img .entry))) ⌝ }
+{
+    if n < 1024 {
+        return walk_below_1024(img, seen, n);
+    }
+    if n < 8192 {
+        return walk_below_8192(img, seen, n);
+    }
+    walk_below_65536(img, seen, n)
 }
 
 // Whether an image of n blocks is a sound volume.
@@ -382,5 +484,5 @@ pub fn is_sound(img: &[u8], n: usize) -> bool
         return false;
     }
     let mut seen = [0u8; 8192];
-    walk_fits(img, &mut seen, n)
+    walk(img, &mut seen, n)
 }

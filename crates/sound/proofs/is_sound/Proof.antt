@@ -32,8 +32,8 @@ returns-2 c =
     let a = c .before .before .before .before .before .args in
     sym (not-placed (a .n) (view (a .img .now)) (λ e. c .if2 .taken (c .before .get-word .ensures .0 ∙ e)))
 
-walk-fits-requires : tie.Need-walk-fits-requires
-walk-fits-requires c κs =
+walk-requires : tie.Need-walk-requires
+walk-requires c κs =
     let a = c .before .before .before .before .before .before .args in
     let p = c .before .before .before .before .before .before .pre in
     let prodos = sym (c .before .before .before .before .is-prodos .ensures) ∙ not-false _ (c .before .before .before .if1 .left) in
@@ -44,7 +44,7 @@ returns-3 c =
     let a = c .before .before .before .before .before .before .before .args in
     let p = c .before .before .before .before .before .before .before .pre in
     let prodos = sym (c .before .before .before .before .before .is-prodos .ensures) ∙ not-false _ (c .before .before .before .before .if1 .left) in
-    c .walk-fits .ensures
+    c .walk .ensures
     ∙ decided (a .n) (view (a .img .now)) (size-right (a .n) (p .0) (p .1)) prodos (sym (c .before .before .before .get-word .ensures .0) ∙ c .before .before .if2 .left)
 
 pub is-sound-spec : {M : Type 1} → statement M
@@ -57,5 +57,5 @@ is-sound-spec =
     add-get-word
     get-word-requires
     returns-2
-    walk-fits-requires
+    walk-requires
     returns-3)

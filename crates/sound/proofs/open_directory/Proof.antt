@@ -6,7 +6,7 @@ use borrow.Author.Tests.{not-true, not-false}
 use Rattle.model.specs.Bytes.{view}
 use Rattle.marks.specs.Marks.{marks}
 use Rattle.checks.proofs.Laws.{inside-chain}
-use Rattle.sound.proofs.WorkLaws.{chain-refused, chain-claimed, top-wrong, names-left}
+use Rattle.sound.proofs.WorkLaws.{chain-refused, chain-claimed, top-wrong, count-left}
 use borrow.Author.Needs.{needs}
 use Rattle.sound.proofs.open_directory.Statement.{statement}
 use Rattle.sound.proofs.open_directory.Tie as tie
@@ -46,8 +46,8 @@ returns-2 c =
       (λ z. let o : _≡_ {A = ℕ} 0 1 = cc in absurd (omega arith)),
     )
 
-names-right-requires : tie.Need-names-right-requires
-names-right-requires c κs =
+count-right-requires : tie.Need-count-right-requires
+count-right-requires c κs =
     let a = c .before .before .before .before .before .before .before .before .before .args in
     let p = c .before .before .before .before .before .before .before .before .before .pre in
     let v = view (a .img .now) in
@@ -64,8 +64,8 @@ returns-3 c =
     let v = view (a .img .now) in
     let k = c .before .before .before .before .before .before .claim-chain in
     let claimed = not-false _ (c .before .before .before .if1 .left) in (
-      names-left (a .n) v (a .place) (a .key) (a .used) (marks (a .seen .now)) (marks (k .last .1 .0)) (k .result) (k .ensures) (c .names-right .result) claimed
-          (sym (c .before .before .top-right .ensures) ∙ not-false _ (c .before .if2 .left)) (c .names-right .ensures),
+      count-left (a .n) v (a .place) (a .key) (a .used) (marks (a .seen .now)) (marks (k .last .1 .0)) (k .result) (k .ensures) (c .count-right .result) claimed
+          (sym (c .before .before .top-right .ensures) ∙ not-false _ (c .before .if2 .left)) (c .count-right .ensures),
       (λ z. chain-claimed (a .n) v (a .place) (a .key) (a .used) (marks (a .seen .now)) (marks (k .last .1 .0)) (k .result) (k .ensures) claimed),
     )
 
@@ -79,6 +79,6 @@ open-directory-spec =
     top-right-requires
     same-length-2
     returns-2
-    names-right-requires
+    count-right-requires
     same-length-3
     returns-3)

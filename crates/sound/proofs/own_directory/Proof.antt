@@ -6,9 +6,10 @@ use native.Mathlib.Omega.{arith}
 use borrow.Author.Tests.{not-true, not-false}
 use Rattle.model.specs.Bytes.{view}
 use Rattle.model.specs.Directory.{used}
+use Rattle.claims.proofs.ClaimLaws.{taken, refused}
 use Rattle.marks.specs.Marks.{marks}
 use Rattle.directory.specs.Search.{listed}
-use Rattle.sound.proofs.WorkLaws.{when-taken, when-refused, no-level, misnamed, misfit, chain-left, fields-some, directory-kids, used-read}
+use Rattle.sound.proofs.WorkLaws.{must-last, no-level, misnamed, misfit, chain-left, fields-some, directory-kids, used-read}
 use borrow.Author.Needs.{needs}
 use Rattle.sound.proofs.own_directory.Statement.{statement}
 use Rattle.sound.proofs.own_directory.Tie as tie
@@ -64,7 +65,7 @@ returns-4 c =
     let k = c .before .before .before .open-directory in
     let left = chain-left (a .n) (view (a .img .now)) (a .levels) (a .home) (a .place) (marks (a .seen .now)) (p .0 .2) (c .before .before .before .before .before .before .before .before .before .before .if1 .left) (e .result) (e .ensures)
     (a .entry) (p .1 .1) (not-false _ (c .before .before .before .before .before .before .before .before .if2 .left)) (f .result) (f .ensures) (not-false _ (c .before .before .before .before .before .before .if3 .left)) (a .key) (p .1 .0) in
-    (when-refused (marks (k .last .1 .0)) (k .result) _ (k .ensures .0 ∙ left) (not-true _ (c .if4 .taken)), tt)
+    (sym (refused (a .n) _ _ (marks (a .seen .now)) (marks (k .last .1 .0)) (k .result) (not-true _ (c .if4 .taken)) (k .ensures .0)) ∙ left, tt)
 
 same-length-2 : tie.Need-same-length-2
 same-length-2 c = search needs
@@ -81,7 +82,7 @@ returns-5 c =
     let done = not-false _ (c .if4 .left) in
     let left = chain-left (a .n) v (a .levels) (a .home) (a .place) (marks (a .seen .now)) (p .0 .2) (c .before .before .before .before .before .before .before .before .before .before .if1 .left) (e .result) (e .ensures)
     (a .entry) (p .1 .1) (not-false _ (c .before .before .before .before .before .before .before .before .if2 .left)) (f .result) (f .ensures) fit (a .key) (p .1 .0) in (
-      when-taken (marks (k .last .1 .0)) (k .result) _ (k .ensures .0 ∙ left) done,
+      must-last (a .n) (marks (k .last .1 .0)) _ ∙ sym (taken (a .n) _ _ (marks (a .seen .now)) (marks (k .last .1 .0)) (k .result) done (k .ensures .0)) ∙ left,
       record {
         below =
             directory-kids v (a .place) (p .0 .2)
