@@ -386,8 +386,8 @@ fn unlike_by_order(
     each_with_each(img, n, key, used)
 }
 
-// No two active entries of a directory of `used` blocks have one name. Those of a few blocks are compared each with each, more are put in order.
-// The last three are scratch: each has one place more than there are entries, or each is compared with each again.
+// No two active entries of a directory of `used` blocks have one name. In a few blocks each is compared with each, in more they are put in order.
+// The last three are scratch, each with a place more than there are entries: where one is shorter, each is compared with each again.
 pub fn unlike(
     img: &[u8],
     n: usize,
