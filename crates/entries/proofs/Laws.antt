@@ -9,7 +9,7 @@ use Rattle.model.specs.Bytes.{Bytes, view, put, paste, from, zeros, clear, digi
 use Rattle.model.specs.Names.{Part, part, capital, capitals}
 use Rattle.model.specs.Calls.{stampBytes, putStamp, nameField, putName}
 use Rattle.model.specs.Create.{Wanted, entryBytes, subdirectoryHeader}
-use Rattle.model.specs.Format.{headerBytes, volumeHeader}
+use Rattle.model.specs.Format.{headerBytes}
 use Rattle.model.specs.declared.Stamp.{Stamp}
 use Rattle.model.proofs.ByteLaws.{in-or-out, paste-in, paste-at, paste-out, paste-by, paste-cong, paste-put, paste-paste, clear-in, clear-out, view-part}
 use Rattle.model.proofs.Laws.Fresh.{name-rest}

@@ -1,7 +1,7 @@
 // What the calls store in a slot: stamps, names as capitals, and the 39 bytes of headers and entries.
 // A writer of a slot is lent its 39 bytes from the middle of the image, and touches nothing else.
 ghost use mathlib.Core.Path.{_≡_};
-ghost use Prim.Native.Nat.{_+_, _*_, _≤_, _<_};
+ghost use Prim.Native.Nat.{_+_, _≤_, _<_};
 ghost use lib.ListN.{length};
 ghost use Rattle.model.specs.Bytes.{view, paste};
 ghost use Rattle.model.specs.Names.{capitals, part};
@@ -21,7 +21,7 @@ const SLOTS: u8 = 13;
 // The volume's map begins at block 6.
 const MAP_BLOCK: usize = 6;
 
-// A subdirectory: its kind, and the EOF of its one block.
+// The kind of a subdirectory's entry.
 const DIRECTORY: usize = 0xD;
 
 // What a new file, and a subdirectory's header, may have done to them.

@@ -9,8 +9,8 @@ use native.Mathlib.Omega.{arith}
 use borrow.Author.Tests.{eqb-true, eq-eqb, ne-eqb, le-leb, lt-leb}
 use Rattle.model.specs.Bytes.{Bytes, view, _and_, within, one-if}
 use Rattle.model.specs.Names.{properName}
-use Rattle.model.specs.Map.{weight, freshBits, freshMap}
-use Rattle.model.specs.Sound.{properSize, wholeBlocks}
+use Rattle.model.specs.Map.{weight, freshBits}
+use Rattle.model.specs.Sound.{wholeBlocks}
 use Rattle.model.specs.Refusals.{Row, row, first}
 use Rattle.model.specs.Format.{formatNumber, formatted, format}
 use Rattle.model.specs.Answers.{Does}

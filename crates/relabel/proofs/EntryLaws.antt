@@ -1,17 +1,16 @@
 -- The entry that a path opened: its directory can be searched, its slot and its header are on the image.
-use Prim.Native.Nat.{ℕ, zero, suc, _+_, _*_, _/_, _≤_, _<_}
+use Prim.Native.Nat.{ℕ, zero, suc, _+_, _/_, _≤_, _<_}
 use mathlib.Core.Path.{_≡_, refl, sym, ap, _∙_}
-use mathlib.Core.Bool.{Bool, true, false}
+use mathlib.Core.Bool.{true}
 use native.Mathlib.Omega.{arith}
 use Rattle.model.specs.Bytes.{Bytes}
 use Rattle.model.specs.Names.{parts}
-use Rattle.model.specs.Directory.{at, volume, Sort, inactive, directory, improper, file, sort, isActive, key, used, chain, slotsBelow, kids, there, place}
+use Rattle.model.specs.Directory.{at, volume, Sort, inactive, directory, improper, file, sort, isActive, key, used, chain, slotsBelow, kids, there}
 use Rattle.model.specs.Calls.{total, target}
-use Rattle.model.specs.declared.Kind.{Kind}
-use Rattle.model.specs.declared.Kind.the-variants.{Seedling, Sapling, Tree, Directory}
+use Rattle.model.specs.declared.Kind.the-variants.{Directory}
 use Rattle.model.specs.declared.Place.{Place}
 use Rattle.model.specs.declared.Entry.{Entry}
-use Rattle.facts.specs.Reached.{Met, Inside, Led, led-there}
+use Rattle.facts.specs.Reached.{Inside, Led, led-there}
 use Rattle.facts.proofs.BlockLaws.{met-directory}
 use Rattle.facts.proofs.LookupLaws.{lookup-led}
 use Rattle.directory.specs.Slots.{placeNumber, placeOf, kindOf, entryOf}

@@ -5,12 +5,11 @@ use mathlib.Core.Bool.{Bool, true, false}
 use mathlib.Core.List.{List, [], _∷_}
 use lib.ListN.{length}
 use lib.Dec.{eqb}
-use native.Mathlib.Omega.{arith}
 use borrow.Author.Tests.{ne-eqb}
 use Rattle.model.specs.Bytes.{Bytes, view, put, putWord}
 use Rattle.model.specs.Directory.{at, volume, there}
 use Rattle.model.specs.Refusals.{refusalNumber, Row, row, first}
-use Rattle.model.specs.Calls.{total, target, spot, putStamp}
+use Rattle.model.specs.Calls.{target, spot, putStamp}
 use Rattle.model.specs.Info.{infoSet, setInfoNumber, setInfo}
 use Rattle.model.specs.Answers.{Does}
 use Rattle.model.specs.declared.Stamp.{Stamp}

@@ -1,18 +1,13 @@
 // Set info and rename: the calls that change what an entry says of itself. All checks stand before the first changed byte; a refusal has the
 // number of document 01. The outcome is the one of the definition in model.
 ghost use mathlib.Core.Path.{_≡_};
-ghost use mathlib.Core.Bool.{true};
-ghost use Prim.Native.Nat.{_+_, _≤_, _<_};
+ghost use Prim.Native.Nat.{_+_, _≤_};
 ghost use lib.ListN.{length};
-ghost use lib.Dec.{eqb};
 ghost use Rattle.model.specs.Bytes.{view, put, putWord};
-ghost use Rattle.model.specs.Names.{properName};
 ghost use Rattle.model.specs.Calls.{putStamp, allows, renameBit, backedUp};
 ghost use Rattle.model.specs.Info.{setInfo};
 ghost use Rattle.model.specs.Rename.{named, rename as renameCall};
 ghost use Rattle.model.specs.Answers.{Does};
-ghost use Rattle.directory.specs.Slots.{placeNumber, placeOf};
-ghost use Rattle.directory.specs.Search.{foundAt};
 ghost use Rattle.relabel.specs.Relabeled.{openedIf, isOtherPlace, namedIn, Header, Held, volumeRenamed, entryRenamed};
 use directory::Home;
 use model::Answer;

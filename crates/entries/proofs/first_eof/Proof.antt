@@ -2,8 +2,6 @@
 use Rattle.entries.proofs.Laws.{eof-directory, eof-file}
 use Rattle.entries.proofs.first_eof.Statement.{statement}
 use Rattle.entries.proofs.first_eof.Tie as tie
-use Rattle.entries.proofs.first_eof.Reads as reads
-use Rattle.entries.proofs.first_eof.Lts as lts
 
 -- src/lib.rt:112:9
 returns : tie.Need-returns

@@ -1,7 +1,6 @@
 -- `entries::write_front` meets its contract. Field by field, in the order of the definition. Assumes nothing.
 use mathlib.Core.Path.{ap, _∙_}
 use Rattle.model.specs.Bytes.{putLong, putWord, put}
-use Rattle.entries.specs.Fields.{firstEof}
 use borrow.Author.Needs.{needs}
 use Rattle.entries.proofs.write_front.Statement.{statement}
 use Rattle.entries.proofs.write_front.Tie as tie

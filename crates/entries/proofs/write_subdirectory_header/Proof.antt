@@ -1,7 +1,7 @@
 -- `entries::write_subdirectory_header` meets its contract. The place's block and slot are what its number says. Assumes nothing.
 use mathlib.Core.Path.{ap, _∙_}
 use Prim.Native.Nat.{_/_, _%_, _+_, _*_, _-_}
-use mathlib.Core.Path.{_≡_, refl, sym}
+use mathlib.Core.Path.{_≡_, refl}
 use native.Mathlib.Omega.{arith}
 use Rattle.model.specs.Bytes.{put, putWord}
 use Rattle.model.specs.Directory.{place}

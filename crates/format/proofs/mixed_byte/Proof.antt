@@ -1,6 +1,6 @@
 -- `format::mixed_byte` meets its contract. The first i bits are counted after i turns. Assumes nothing.
-use mathlib.Core.Path.{_≡_, refl, ap, _∙_}
-use Prim.Native.Nat.{suc, _+_, _-_, _*_, _≤_}
+use mathlib.Core.Path.{_≡_, ap, _∙_}
+use Prim.Native.Nat.{_+_, _-_, _*_, _≤_}
 use native.Mathlib.Omega.{arith}
 use Rattle.model.specs.Map.{freshBits}
 use Rattle.format.proofs.Laws.{fresh-none, fresh-next}

@@ -1,7 +1,7 @@
 -- `relabel::put_info` meets its contract. Field by field, in the order of the definition. Assumes nothing.
 use mathlib.Core.Path.{ap, _∙_}
 use Prim.Native.Nat.{_+_}
-use Rattle.model.specs.Bytes.{put, putWord}
+use Rattle.model.specs.Bytes.{putWord}
 use Rattle.model.specs.Calls.{putStamp}
 use borrow.Author.Needs.{needs}
 use Rattle.relabel.proofs.put_info.Statement.{statement}

@@ -1,12 +1,10 @@
 -- `relabel::rename_entry` meets its contract. The refusals, then the names, then the backup bit. Assumes nothing.
-use mathlib.Core.Path.{_≡_, sym, ap, _∙_}
+use mathlib.Core.Path.{sym, ap, _∙_}
 use Prim.Native.Nat.{_+_, _≤_}
 use borrow.Author.Tests.{not-true, not-false}
 use native.Mathlib.Omega.{arith}
 use lib.ListN.{length}
 use Rattle.model.specs.Bytes.{view, put}
-use Rattle.model.specs.Directory.{at}
-use Rattle.model.specs.Calls.{backedUp}
 use Rattle.model.specs.Rename.{named}
 use Rattle.relabel.specs.Relabeled.{namedIn}
 use Rattle.relabel.proofs.EntryLaws.{held-fits}

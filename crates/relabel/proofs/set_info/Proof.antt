@@ -2,7 +2,6 @@
 use mathlib.Core.Path.{sym, ap, _∙_}
 use lib.ListN.{length}
 use Rattle.model.specs.Bytes.{view}
-use Rattle.model.specs.Directory.{at}
 use Rattle.relabel.proofs.InfoLaws.{infoAt, set-entry, set-does-refused, set-does-volume, set-does}
 use borrow.Author.Needs.{needs}
 use Rattle.relabel.proofs.set_info.Statement.{statement}
