@@ -3,17 +3,17 @@ use Prim.Native.Nat.{ℕ, suc, _+_, _-_, _*_, _/_, _≤_, _<_}
 use mathlib.Core.Path.{_≡_, refl, sym, ap, subst, _∙_}
 use mathlib.Core.List.{List, [], _∷_}
 use mathlib.Core.Option.{Option, none, some}
-use mathlib.Core.Bool.{Bool, true, false, not}
+use mathlib.Core.Bool.{Bool, true, false}
 use lib.Dec.{ltb, eqb}
 use lib.ListN.{length, length-drop}
 use native.Mathlib.Omega.{arith}
 use borrow.Author.Tests.{eqb-true, eqb-false}
 use Rattle.model.specs.Bytes.{Bytes, Octets, view, paste, putWord, sum, _and_}
-use Rattle.model.specs.Names.{Part, part, parts, properPath}
+use Rattle.model.specs.Names.{Part, part, parts}
 use Rattle.model.specs.Map.{room, lowest, taken}
-use Rattle.model.specs.Directory.{at, volume, mapPlace, mapBlock, activeCount, chain, slots, Sort, inactive, directory, improper, file, sort, isActive, live, field, key, used, kids, active, vacant, Target, missing}
+use Rattle.model.specs.Directory.{at, volume, mapPlace, mapBlock, activeCount, chain, slots, Sort, inactive, directory, improper, file, sort, isActive, live, field, key, used, kids, active, vacant, missing}
 use Rattle.model.specs.Sound.{sound}
-use Rattle.model.specs.Refusals.{refusalNumber, Row, row, first, settle}
+use Rattle.model.specs.Refusals.{Row, row, first, settle}
 use Rattle.model.specs.Calls.{total, target, home, isNoVolume, isNoDirectory, isThere, lastPart, nothing}
 use Rattle.model.specs.Create.{Wanted, directoryKind, lastBlock, entryBytes, subdirectoryHeader, createdAt, entered, created, full, createNeed, createNumber, create}
 use Rattle.model.specs.Answers.{Does}
@@ -40,7 +40,7 @@ use Rattle.create.specs.Entered.{freshBlock, enteredIn, createIn, grown,
 use Rattle.create.specs.declared.Housed.{Housed}
 use Rattle.create.specs.declared.Housed.the-variants as housed
 use Rattle.create.proofs.EnteredLaws.{entered-is, inNumber}
-use Rattle.create.proofs.HousedLaws.{housedOr, housed-first, Home-of, housed-in}
+use Rattle.create.proofs.HousedLaws.{housedOr, housed-first, housed-in}
 
 -- A directory with no inactive slot has few blocks.
 vacant-none : (v : Bytes) (ss : List ℕ) → vacant v ss ≡ none → active v ss ≡ length ss

@@ -1,45 +1,34 @@
 -- What the stores of create come to, the rows $49 and $48, and what soundness gives of a directory.
-use Prim.Native.Nat.{ℕ, zero, suc, _+_, _-_, _*_, _/_, _≤_, _<_}
+use Prim.Native.Nat.{ℕ, zero, suc, _+_, _-_, _*_, _≤_, _<_}
 use mathlib.Core.Path.{_≡_, refl, sym, ap, subst, _∙_}
 use mathlib.Core.List.{List, [], _∷_, List·Memᴰ, List·Memᴰ·head, List·Memᴰ·tail}
-use mathlib.Core.Option.{Option, none, some}
-use mathlib.Core.Bool.{Bool, true, false, not, false≢true}
+use mathlib.Core.Option.{none, some}
+use mathlib.Core.Bool.{Bool, true, false}
 use lib.Dec.{ltb, eqb}
-use lib.ListN.{length, length-drop}
+use lib.ListN.{length}
 use native.Mathlib.Omega.{arith}
 use borrow.Author.Tests.{eq-eqb, ne-eqb, lt-ltb, le-ltb}
-use Rattle.model.specs.Bytes.{Bytes, Octets, view, paste, putWord, putLong, long, word, sum, count, is, _and_}
-use Rattle.model.specs.Names.{Part, part, parts}
+use Rattle.model.specs.Bytes.{Bytes, view, paste, putWord, putLong, long, count, _and_}
+use Rattle.model.specs.Names.{Part}
 use Rattle.model.specs.Map.{room, lowest, firstFree, taken}
-use Rattle.model.specs.Directory.{at, blockOf, volume, mapPlace, mapBlock, activeCount, chain, next, slots, Sort, inactive, directory, improper, file, sort, isActive, live, field, key, used, eof, kids, active, vacant, Target, missing}
-use Rattle.model.specs.Sound.{sound}
+use Rattle.model.specs.Directory.{at, blockOf, volume, mapPlace, activeCount, chain, next, slots, directory, key, used, kids, vacant}
 use Rattle.model.specs.Refusals.{refusalNumber, row, first, settle}
-use Rattle.model.specs.Calls.{total, target, home, isNoVolume, isNoDirectory, isThere, lastPart, nothing}
+use Rattle.model.specs.Calls.{nothing}
 use Rattle.model.specs.Create.{Wanted, directoryKind, lastBlock, gained, entryBytes, subdirectoryHeader, entered, createdAt, created, isFull, full, createNeed}
 use Rattle.model.specs.Answers.{Does}
 use Rattle.model.specs.declared.Refusal.{Refusal}
 use Rattle.model.specs.declared.Answer.the-variants as answer
 use Rattle.model.specs.declared.Place.{Place}
 use Rattle.model.proofs.RefusalLaws.{settle-refused, settle-accepted, number-refuses, first-applies, first-passes}
-use Rattle.model.proofs.BitLaws.{room-one, room-lowest, lowest-free}
-use Rattle.model.proofs.Laws.Frame.{last-in, chain-length, slots-length}
-use Rattle.model.proofs.Laws.Sound.{Sound, sound-facts}
-use Rattle.model.proofs.Laws.Keep.{directory-kids}
-use Rattle.model.proofs.Laws.Facts as facts
-use Rattle.model.proofs.Laws.Most.{directory-most}
-use Rattle.model.proofs.Laws.One as one
-use Rattle.model.proofs.Laws.Lookup as look
-use Rattle.model.proofs.Laws.Extend.{Extends, grown-key, grown-free}
-use Rattle.directory.specs.Slots.{placeNumber, placeOf, Counted}
-use Rattle.directory.specs.Search.{Each, listed, Searchable}
-use Rattle.directory.specs.Lookup.{homeOf}
+use Rattle.model.proofs.BitLaws.{room-lowest}
+use Rattle.directory.specs.Slots.{placeNumber, Counted}
+use Rattle.directory.specs.Search.{Each}
 use Rattle.directory.specs.declared.Home.{Home}
-use Rattle.directory.proofs.SlotLaws.{place-number, place-of}
-use Rattle.directory.proofs.AnswerLaws.{place-counted, vacant-some, listed-inside, lookup-lands}
-use Rattle.opening.proofs.SaneLaws.{sane}
+use Rattle.directory.proofs.SlotLaws.{place-of}
+use Rattle.directory.proofs.AnswerLaws.{vacant-some, listed-inside}
 use Rattle.opening.proofs.EntryLaws.{eof-at}
 use Rattle.release.proofs.Laws.{chain-step}
-use Rattle.create.specs.Entered.{freshBlock, enteredIn, gainedAt, createIn, grown, Houses, Vacant, Packed}
+use Rattle.create.specs.Entered.{freshBlock, enteredIn, gainedAt, createIn, grown, Houses}
 
 -- The stores.
 module _ (v : Bytes) (z s : ℕ) (p : Bytes) (x : Part) (w : Wanted) where

@@ -8,7 +8,7 @@ use lib.Dec.{ltb, eqb}
 use Rattle.model.specs.Bytes.{Bytes, paste, putWord, putLong, long, _and_}
 use Rattle.model.specs.Names.{Part}
 use Rattle.model.specs.Map.{room, lowest, taken}
-use Rattle.model.specs.Directory.{at, volume, mapPlace, activeCount, key, used, eof, kids, vacant}
+use Rattle.model.specs.Directory.{at, volume, mapPlace, activeCount, key, used, kids, vacant}
 use Rattle.model.specs.Refusals.{row, first, Outcome, settle}
 use Rattle.model.specs.Calls.{Nothing, nothing}
 use Rattle.model.specs.Create.{directoryKind, lastBlock, gained, entryBytes, subdirectoryHeader, created, full, createNeed}

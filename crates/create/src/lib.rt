@@ -5,7 +5,7 @@ ghost use mathlib.Core.Bool.{true};
 ghost use Prim.Native.Nat.{_+_, _*_, _≤_, _<_};
 ghost use lib.ListN.{length};
 ghost use lib.Dec.{eqb};
-ghost use Rattle.model.specs.Bytes.{view, putWord, putLong, long, _or_};
+ghost use Rattle.model.specs.Bytes.{view, putWord, _or_};
 ghost use Rattle.model.specs.Names.{part, properPath};
 ghost use Rattle.model.specs.Map.{taken};
 ghost use Rattle.model.specs.Directory.{mapPlace, chain};
@@ -46,15 +46,15 @@ const DIRECTORY: u8 = 0xD;
 const DIRECTORY_TYPE: u8 = 0x0F;
 
 // What is to be created.
-pub struct Wanted {
-    pub kind: u8,
-    pub ftype: u8,
-    pub aux: u16,
-    pub stamp: Stamp,
+struct Wanted {
+    kind: u8,
+    ftype: u8,
+    aux: u16,
+    stamp: Stamp,
 }
 
 // The directory of a new entry, with the number of blocks of its volume; or why there is none.
-pub enum Housed {
+enum Housed {
     In(usize, Home),
     Refused(Refusal),
 }
@@ -174,14 +174,14 @@ fn last_block(img: &[u8], n: usize, key: usize, used: usize) -> usize
     last
 }
 
-// Takes block z and links it behind the block `last`.
-fn link(img: &mut [u8], last: usize, z: usize)
-    requires { ⌜ (4096 ≤ length (now img)) × (z < 65536) × (z * 512 + 512 ≤ length (now img)) × (last * 512 + 512 ≤ length (now img)) ⌝ }
-    ensures { λ _. ⌜ view (now (img .exit)) ≡ putWord (putWord (taken mapPlace (view (now (img .entry))) z) (z * 512) last) (last * 512 + 2) z ⌝ }
+// Takes block `more` and links it behind the block `last`.
+fn link(img: &mut [u8], last: usize, more: usize)
+    requires { ⌜ (4096 ≤ length (now img)) × (more < 65536) × (more * 512 + 512 ≤ length (now img)) × (last * 512 + 512 ≤ length (now img)) ⌝ }
+    ensures { λ _. ⌜ view (now (img .exit)) ≡ putWord (putWord (taken mapPlace (view (now (img .entry))) more) (more * 512) last) (last * 512 + 2) more ⌝ }
 {
-    map::take(img, MAP_PLACE, z);
-    store::put_word(img, z * BLOCK, last);
-    store::put_word(img, last * BLOCK + 2, z);
+    map::take(img, MAP_PLACE, more);
+    store::put_word(img, more * BLOCK, last);
+    store::put_word(img, last * BLOCK + 2, more);
 }
 
 // The directory whose entry begins at `start`, with `used` blocks, gains block z at its end.
@@ -197,7 +197,14 @@ fn gain(img: &mut [u8], start: usize, used: usize, last: usize, z: usize)
 }
 
 // $48; then the entry, in an inactive slot of the directory that begins at `key`.
-fn create_at(img: &mut [u8], n: usize, home: Home, place: Place, name: &[u8], wanted: Wanted) -> Answer
+fn create_at(
+    img: &mut [u8],
+    n: usize,
+    home: Home,
+    place: Place,
+    name: &[u8],
+    wanted: Wanted,
+) -> Answer
     requires { ⌜ Whole n (now img) × (length (now name) ≤ 15) × (wanted .kind < 16) × Houses n (view (now img)) home (placeNumber (home .place)) ⌝ }
     requires { ⌜ Vacant (view (now img)) home place ⌝ }
     ensures { λ r. ⌜ Does (createIn n (view (now (img .entry))) (placeNumber (home .place)) (view (now (name .entry))) (part 0 (length (now (name .entry)))) (asked wanted)) (length (now (img .entry))) r (now (img .exit)) ⌝ }
@@ -252,14 +259,7 @@ fn create_in(img: &mut [u8], n: usize, home: Home, name: &[u8], wanted: Wanted) 
 }
 
 // Create: a file (kind 1) or a directory (kind $D) with the last name of a path.
-pub fn create(
-    img: &mut [u8],
-    path: &[u8],
-    kind: u8,
-    ftype: u8,
-    aux: u16,
-    stamp: Stamp,
-) -> Answer
+pub fn create(img: &mut [u8], path: &[u8], kind: u8, ftype: u8, aux: u16, stamp: Stamp) -> Answer
     ensures { λ r. ⌜ Does (createCall (length (now (img .entry))) (view (now (img .entry))) (view (now (path .entry))) (length (now (path .entry))) (record { kind = kind; ftype = ftype; aux = aux; stamp = stamp })) (length (now (img .entry))) r (now (img .exit)) ⌝ }
 {
     match housed_by(img, path, kind, ftype) {

@@ -1,3 +1,4 @@
+-- `create::create` meets its contract. By what houses the new entry; its name is the last part of the path. Assumes nothing.
 use native.Mathlib.Omega.{arith}
 use mathlib.Core.Path.{sym, ap, _∙_}
 use mathlib.Core.List.{List}
@@ -14,29 +15,19 @@ use Rattle.create.proofs.CallLaws.{create-refused, create-housed, in-sa
 use borrow.Author.Needs.{needs}
 use Rattle.create.proofs.create.Statement.{statement}
 use Rattle.create.proofs.create.Tie as tie
-use Rattle.create.proofs.create.Reads as reads
-use Rattle.create.proofs.create.Lts as lts
-use Rattle.create.proofs.create_in.Reads as create-in-reads
-use Rattle.create.proofs.housed_by.Reads as housed-by-reads
-use Rattle.names.proofs.last_name.Reads as last-name-reads
 
--- src/lib.rt:265:11
 housed-by-requires : tie.Need-housed-by-requires
 housed-by-requires c κs = search needs
 
--- src/lib.rt:266:25
 enum-known-why : tie.Need-enum-known-why
 enum-known-why c = search needs
 
--- src/lib.rt:267:20
 enum-known-n : tie.Need-enum-known-n
 enum-known-n c = search needs
 
--- src/lib.rt:268:17
 last-name-requires : tie.Need-last-name-requires
 last-name-requires c κs = search needs
 
--- src/lib.rt:275:13
 create-in-requires : tie.Need-create-in-requires
 create-in-requires c κs =
     let s = c .before .before .before .before .before .before .before .before .before in
@@ -50,21 +41,17 @@ create-in-requires c κs =
     let short : length (c .before .last-name .result .now) ≤ 15 = rw (c .before .last-name .ensures) (last-size p (h .proper)) in
     ((r .0 .least, r .0 .most, r .0 .whole), short, kind-small (a .kind) (h .known), r .1)
 
--- src/lib.rt:255:1
 same-length : tie.Need-same-length
 same-length c = search needs
 
--- src/lib.rt:255:1
 returns : tie.Need-returns
 returns c =
     let a = c .before .before .before .before .before .before .before .args in
     create-refused (a .img .now) (view (a .path .now)) (length (a .path .now)) (record { kind = a .kind; ftype = a .ftype; aux = a .aux; stamp = a .stamp }) _ (sym (c .before .before .before .housed-by .ensures) ∙ c .before .why .given .1)
 
--- src/lib.rt:255:1
 same-length-2 : tie.Need-same-length-2
 same-length-2 c = search needs
 
--- src/lib.rt:255:1
 returns-2 : tie.Need-returns-2
 returns-2 c =
     let s = c .before .before .before .before .before .before .before .before .before .before .before .before in
@@ -78,7 +65,7 @@ returns-2 c =
     let n : ℕ = c .before .before .before .before .before .before .n .given .0 .0 in
     let d : ℕ = placeNumber (c .before .before .before .before .before .before .n .given .0 .1 .0 .place) in
     let named = ap (λ (y : List ℕ). createIn n (view l) d (view y) (part 0 (length y)) w) (c .before .before .before .before .last-name .ensures)
-        ∙ in-same _ (view p) _ _ w (last-entry p (h .proper) w) (last-subdirectory p (h .proper) (a .stamp)) n (view l) d in
+    ∙ in-same _ (view p) _ _ w (last-entry p (h .proper) w) (last-subdirectory p (h .proper) (a .stamp)) n (view l) d in
     rw (r .2 ∙ sym named) (c .before .before .create-in .ensures)
 
 pub create-spec : {M : Type 1} → statement M

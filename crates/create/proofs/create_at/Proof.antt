@@ -1,6 +1,7 @@
+-- `create::create_at` meets its contract. $48 changes nothing; else the entry of the definition. Assumes nothing.
 use native.Mathlib.Omega.{arith}
 use Prim.Native.Nat.{ℕ, _≤_, _<_}
-use mathlib.Core.Path.{_≡_, _∙_}
+use mathlib.Core.Path.{_≡_}
 use lib.ListN.{length}
 use Rattle.model.specs.Bytes.{view}
 use Rattle.model.specs.Names.{part}
@@ -13,22 +14,14 @@ use Rattle.create.proofs.EnteredLaws.{slot-none, slot-room, in-no, in-y
 use borrow.Author.Needs.{needs}
 use Rattle.create.proofs.create_at.Statement.{statement}
 use Rattle.create.proofs.create_at.Tie as tie
-use Rattle.create.proofs.create_at.Reads as reads
-use Rattle.create.proofs.create_at.Lts as lts
-use Rattle.create.proofs.enter.Reads as enter-reads
-use Rattle.map.proofs.first_free.Reads as first-free-reads
-use Rattle.map.proofs.free_blocks.Reads as free-blocks-reads
 
--- src/lib.rt:205:8
 free-blocks-requires : tie.Need-free-blocks-requires
 unfolding mapBlocks
 free-blocks-requires c κs = (omega arith, omega arith)
 
--- src/lib.rt:206:9
 same-length : tie.Need-same-length
 same-length c = search needs
 
--- src/lib.rt:206:9
 returns : tie.Need-returns
 returns c =
     let a = c .before .before .before .before .before .args in
@@ -38,16 +31,13 @@ returns c =
     in-no (a .n) (a .img .now) d (view (a .name .now)) (part 0 (length (a .name .now))) (asked (a .wanted)) NoRoom
     (slot-none (a .n) v d (placeNumber (a .place)) (c .before .before .before .before .before .pre .1 .0) few)
 
--- src/lib.rt:208:9
 first-free-requires : tie.Need-first-free-requires
 unfolding mapBlocks
 first-free-requires c κs = (omega arith, omega arith, omega arith)
 
--- src/lib.rt:209:15
 cast-key : tie.Need-cast-key
 cast-key c = search needs
 
--- src/lib.rt:210:5
 enter-requires : tie.Need-enter-requires
 enter-requires c κs =
     let s = c .before .before .before .before .before .before .before .before .before in
@@ -59,11 +49,9 @@ enter-requires c κs =
     let inside = slot-inside (a .n) v (a .home) (placeNumber (a .home .place)) H (view (a .name .now)) (part 0 (length (a .name .now))) (asked (a .wanted)) (a .place) (s .pre .1 .0) (s .pre .1 .1) in
     ((omega arith, omega arith, omega arith, s .pre .0 .1, s .pre .1 .1), (omega (arith, H .head), omega arith, s .pre .0 .2))
 
--- src/lib.rt:200:1
 same-length-2 : tie.Need-same-length-2
 same-length-2 c = search needs
 
--- src/lib.rt:200:1
 returns-2 : tie.Need-returns-2
 returns-2 c =
     let s = c .before .before .before .before .before .before .before .before .before .before .before .before in

@@ -1,3 +1,4 @@
+-- `create::create_in` meets its contract. By whether the directory has an inactive slot. Assumes nothing.
 use mathlib.Core.Path.{sym, ap, _∙_}
 use Rattle.model.specs.Bytes.{view}
 use Rattle.model.specs.Directory.{vacant}
@@ -5,29 +6,19 @@ use Rattle.directory.proofs.AnswerLaws.{vacancy-some, vacancy-none}
 use borrow.Author.Needs.{needs}
 use Rattle.create.proofs.create_in.Statement.{statement}
 use Rattle.create.proofs.create_in.Tie as tie
-use Rattle.create.proofs.create_in.Reads as reads
-use Rattle.create.proofs.create_in.Lts as lts
-use Rattle.create.proofs.create_at.Reads as create-at-reads
-use Rattle.create.proofs.create_behind.Reads as create-behind-reads
-use Rattle.directory.proofs.vacant_in.Reads as vacant-in-reads
 
--- src/lib.rt:246:15
 cast-key : tie.Need-cast-key
 cast-key c = search needs
 
--- src/lib.rt:247:16
 cast-used : tie.Need-cast-used
 cast-used c = search needs
 
--- src/lib.rt:248:11
 vacant-in-requires : tie.Need-vacant-in-requires
 vacant-in-requires c κs = search needs
 
--- src/lib.rt:249:23
 enum-known-place : tie.Need-enum-known-place
 enum-known-place c = search needs
 
--- src/lib.rt:249:33
 create-at-requires : tie.Need-create-at-requires
 create-at-requires c κs =
     let s = c .before .before .before .before .before .before .before .before .before .before in
@@ -36,11 +27,9 @@ create-at-requires c κs =
     let r = vacancy-some _ _ (sym (c .before .before .before .before .vacant-in .ensures) ∙ c .before .before .place .given .1) in
     ((s .pre .0, s .pre .1, s .pre .2, H), (ap (vacant v) (H .slots) ∙ r .0, r .1))
 
--- src/lib.rt:250:40
 enum-told : tie.Need-enum-told
 enum-told c = search needs
 
--- src/lib.rt:250:26
 create-behind-requires : tie.Need-create-behind-requires
 create-behind-requires c κs =
     let s = c .before .before .before .before .before .before .before .before .before in
@@ -48,19 +37,15 @@ create-behind-requires c κs =
     let H = s .pre .3 in
     ((s .pre .0, s .pre .1, s .pre .2, H), ap (vacant v) (H .slots) ∙ vacancy-none _ (sym (c .before .before .before .vacant-in .ensures) ∙ c .before .enum-told .given .1))
 
--- src/lib.rt:242:1
 same-length : tie.Need-same-length
 same-length c = search needs
 
--- src/lib.rt:242:1
 returns : tie.Need-returns
 returns c = search needs
 
--- src/lib.rt:242:1
 same-length-2 : tie.Need-same-length-2
 same-length-2 c = search needs
 
--- src/lib.rt:242:1
 returns-2 : tie.Need-returns-2
 returns-2 c = search needs
 

@@ -1,5 +1,6 @@
+-- `create::enter` meets its contract. Each store is one layer of the definition; the entry is pasted as the 39 bytes that were lent. Assumes nothing.
 use native.Mathlib.Omega.{arith}
-use Prim.Native.Nat.{ℕ, _+_, _-_, _*_, _≤_}
+use Prim.Native.Nat.{ℕ, _+_, _-_, _≤_}
 use mathlib.Core.Path.{_≡_, _∙_}
 use lib.ListN.{length}
 use Rattle.model.specs.Bytes.{view}
@@ -14,71 +15,49 @@ use Rattle.create.proofs.EnteredLaws.{entered-image}
 use borrow.Author.Needs.{needs}
 use Rattle.create.proofs.enter.Statement.{statement}
 use Rattle.create.proofs.enter.Tie as tie
-use Rattle.create.proofs.enter.Reads as reads
-use Rattle.create.proofs.enter.Lts as lts
-use Rattle.create.proofs.open_block.Reads as open-block-reads
-use Rattle.directory.proofs.slot_at.Reads as slot-at-reads
-use Rattle.entries.proofs.write_entry.Reads as write-entry-reads
-use Rattle.store.proofs.get_word.Reads as get-word-reads
-use Rattle.store.proofs.put_word.Reads as put-word-reads
 
--- src/lib.rt:141:19
 mul-counted : tie.Need-mul-counted
 mul-counted c = search needs
 
--- src/lib.rt:141:19
 add-counted : tie.Need-add-counted
 add-counted c = search needs
 
--- src/lib.rt:142:9
 get-word-requires : tie.Need-get-word-requires
 get-word-requires c κs = search needs
 
--- src/lib.rt:143:5
 open-block-requires : tie.Need-open-block-requires
 open-block-requires c κs = search needs
 
--- src/lib.rt:144:35
 add-put-word : tie.Need-add-put-word
 add-put-word c = search needs
 
--- src/lib.rt:144:5
 put-word-requires : tie.Need-put-word-requires
 put-word-requires c κs = search needs
 
--- src/lib.rt:145:16
 cast-kind : tie.Need-cast-kind
 cast-kind c = search needs
 
--- src/lib.rt:147:9
 slot-at-requires : tie.Need-slot-at-requires
 slot-at-requires c κs = search needs
 
--- src/lib.rt:148:15
 add-end : tie.Need-add-end
 add-end c = omega (arith, c .slot-at .ensures, at-place (c .before .before .before .before .before .before .before .before .before .before .before .before .before .before .before .args .place) (c .before .before .before .before .before .before .before .before .before .before .before .before .before .before .before .pre .0 .4))
 
--- src/lib.rt:150:9
 sub-write-entry : tie.Need-sub-write-entry
 sub-write-entry c = search needs
 
--- src/lib.rt:150:9
 part-write-entry-start : tie.Need-part-write-entry-start
 part-write-entry-start c = search needs
 
--- src/lib.rt:150:9
 part-write-entry-end : tie.Need-part-write-entry-end
 part-write-entry-end c = omega (arith, c .slot-at .ensures, at-place (c .before .before .before .before .before .before .before .before .before .before .before .before .before .before .before .args .place) (c .before .before .before .before .before .before .before .before .before .before .before .before .before .before .before .pre .0 .4))
 
--- src/lib.rt:149:5
 write-entry-requires : tie.Need-write-entry-requires
 write-entry-requires c κs = search needs
 
--- src/lib.rt:136:1
 same-length : tie.Need-same-length
 same-length c = search needs
 
--- src/lib.rt:136:1
 returns : tie.Need-returns
 returns c =
     let a = c .before .before .before .before .before .before .before .before .before .before .before .before .before .before .before .before .before .before .before .args in

@@ -1,56 +1,40 @@
+-- `create::gain` meets its contract. Each store is one layer of the definition; EOF was read before them. Assumes nothing.
 use Rattle.model.specs.Bytes.{view}
 use Rattle.create.proofs.EnteredLaws.{gained-image}
 use borrow.Author.Needs.{needs}
 use Rattle.create.proofs.gain.Statement.{statement}
 use Rattle.create.proofs.gain.Tie as tie
-use Rattle.create.proofs.gain.Reads as reads
-use Rattle.create.proofs.gain.Lts as lts
-use Rattle.create.proofs.link.Reads as link-reads
-use Rattle.store.proofs.get_long.Reads as get-long-reads
-use Rattle.store.proofs.put_long.Reads as put-long-reads
-use Rattle.store.proofs.put_word.Reads as put-word-reads
 
--- src/lib.rt:193:36
 add-get-long : tie.Need-add-get-long
 add-get-long c = search needs
 
--- src/lib.rt:193:9
 get-long-requires : tie.Need-get-long-requires
 get-long-requires c κs = search needs
 
--- src/lib.rt:194:5
 link-requires : tie.Need-link-requires
 link-requires c κs = search needs
 
--- src/lib.rt:195:26
 add-put-word : tie.Need-add-put-word
 add-put-word c = search needs
 
--- src/lib.rt:195:40
 add-put-word-2 : tie.Need-add-put-word-2
 add-put-word-2 c = search needs
 
--- src/lib.rt:195:5
 put-word-requires : tie.Need-put-word-requires
 put-word-requires c κs = search needs
 
--- src/lib.rt:196:26
 add-put-long : tie.Need-add-put-long
 add-put-long c = search needs
 
--- src/lib.rt:196:40
 add-put-long-2 : tie.Need-add-put-long-2
 add-put-long-2 c = search needs
 
--- src/lib.rt:196:5
 put-long-requires : tie.Need-put-long-requires
 put-long-requires c κs = search needs
 
--- src/lib.rt:188:1
 same-length : tie.Need-same-length
 same-length c = search needs
 
--- src/lib.rt:188:1
 returns : tie.Need-returns
 returns c =
     let a = c .before .before .before .before .before .before .before .before .before .before .before .before .before .before .before .args in

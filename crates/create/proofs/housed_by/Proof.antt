@@ -1,81 +1,62 @@
+-- `create::housed_by` meets its contract. Each refusal is one row of the table, in its order. Assumes nothing.
 use mathlib.Core.Path.{refl, sym, _∙_}
 use mathlib.Core.Bool.{true, false}
 use lib.ListN.{length}
 use borrow.Author.Tests.{not-true, not-false}
-use Rattle.model.specs.Bytes.{view, _or_}
-use Rattle.create.specs.Housed.{wrongFor}
+use Rattle.model.specs.Bytes.{view}
 use Rattle.opening.proofs.VolumeLaws.{volume-sound}
 use Rattle.create.proofs.HousedLaws.{housed-refused, housed-on}
 use borrow.Author.Needs.{needs}
 use Rattle.create.proofs.housed_by.Statement.{statement}
 use Rattle.create.proofs.housed_by.Tie as tie
-use Rattle.create.proofs.housed_by.Reads as reads
-use Rattle.create.proofs.housed_by.Lts as lts
-use Rattle.create.proofs.housed_at.Reads as housed-at-reads
-use Rattle.create.proofs.is_kind.Reads as is-kind-reads
-use Rattle.create.proofs.is_wrong_type.Reads as is-wrong-type-reads
-use Rattle.names.proofs.is_proper_path.Reads as is-proper-path-reads
-use Rattle.opening.proofs.volume_in.Reads as volume-in-reads
 
--- src/lib.rt:101:11
 volume-in-requires : tie.Need-volume-in-requires
 volume-in-requires c κs = search needs
 
--- src/lib.rt:102:25
 enum-known-why : tie.Need-enum-known-why
 enum-known-why c = search needs
 
--- src/lib.rt:103:23
 enum-known-n : tie.Need-enum-known-n
 enum-known-n c = search needs
 
--- src/lib.rt:104:17
 is-proper-path-requires : tie.Need-is-proper-path-requires
 is-proper-path-requires c κs = search needs
 
--- src/lib.rt:105:17
 returns : tie.Need-returns
 returns c =
     let a = c .before .before .before .before .before .before .before .before .args in
     sym (housed-on (length (a .img .now)) (view (a .img .now)) (view (a .path .now)) (length (a .path .now)) (a .kind) (a .ftype) _ false _ _
     (sym (c .before .before .before .before .before .volume-in .ensures) ∙ c .before .before .before .n .given .1) (sym (c .before .is-proper-path .ensures) ∙ not-true _ (c .if1 .taken)) refl refl)
 
--- src/lib.rt:107:17
 is-kind-requires : tie.Need-is-kind-requires
 is-kind-requires c κs = search needs
 
--- src/lib.rt:108:17
 returns-2 : tie.Need-returns-2
 returns-2 c =
     let a = c .before .before .before .before .before .before .before .before .before .before .args in
     sym (housed-on (length (a .img .now)) (view (a .img .now)) (view (a .path .now)) (length (a .path .now)) (a .kind) (a .ftype) _ true false _
     (sym (c .before .before .before .before .before .before .before .volume-in .ensures) ∙ c .before .before .before .before .before .n .given .1) (sym (c .before .before .before .is-proper-path .ensures) ∙ not-false _ (c .before .before .if1 .left)) (sym (c .before .is-kind .ensures) ∙ not-true _ (c .if2 .taken)) refl)
 
--- src/lib.rt:110:16
 is-wrong-type-requires : tie.Need-is-wrong-type-requires
 is-wrong-type-requires c κs = search needs
 
--- src/lib.rt:111:17
 returns-3 : tie.Need-returns-3
 returns-3 c =
     let a = c .before .before .before .before .before .before .before .before .before .before .before .before .args in
     sym (housed-on (length (a .img .now)) (view (a .img .now)) (view (a .path .now)) (length (a .path .now)) (a .kind) (a .ftype) _ true true true
     (sym (c .before .before .before .before .before .before .before .before .before .volume-in .ensures) ∙ c .before .before .before .before .before .before .before .n .given .1) (sym (c .before .before .before .before .before .is-proper-path .ensures) ∙ not-false _ (c .before .before .before .before .if1 .left)) (sym (c .before .before .before .is-kind .ensures) ∙ not-false _ (c .before .before .if2 .left)) (sym (c .before .is-wrong-type .ensures) ∙ c .if3 .taken))
 
--- src/lib.rt:113:13
 housed-at-requires : tie.Need-housed-at-requires
 housed-at-requires c κs =
     let a = c .before .before .before .before .before .before .before .before .before .before .before .before .args in
     let f = volume-sound (length (a .img .now)) (view (a .img .now)) _ (sym (c .before .before .before .before .before .before .before .before .before .volume-in .ensures) ∙ c .before .before .before .before .before .before .before .n .given .1) in
     ((f .most, f .whole, f .sane), sym (c .before .before .before .before .before .is-proper-path .ensures) ∙ not-false _ (c .before .before .before .before .if1 .left))
 
--- src/lib.rt:98:1
 returns-4 : tie.Need-returns-4
 returns-4 c =
     let a = c .before .before .before .before .before .before .args in
     sym (housed-refused (length (a .img .now)) (view (a .img .now)) (view (a .path .now)) (length (a .path .now)) (a .kind) (a .ftype) _ (sym (c .before .before .before .volume-in .ensures) ∙ c .before .why .given .1))
 
--- src/lib.rt:98:1
 returns-5 : tie.Need-returns-5
 returns-5 c =
     let a = c .before .before .before .before .before .before .before .before .before .before .before .before .before .args in

@@ -1,14 +1,11 @@
+-- `create::is_kind` meets its contract. One test after the other. Assumes nothing.
 use Rattle.create.proofs.HousedLaws.{kind-file, kind-other}
 use Rattle.create.proofs.is_kind.Statement.{statement}
 use Rattle.create.proofs.is_kind.Tie as tie
-use Rattle.create.proofs.is_kind.Reads as reads
-use Rattle.create.proofs.is_kind.Lts as lts
 
--- src/lib.rt:67:9
 returns : tie.Need-returns
 returns c = kind-file (c .before .args .kind) (c .if1 .taken)
 
--- src/lib.rt:63:1
 returns-2 : tie.Need-returns-2
 returns-2 c = kind-other (c .before .args .kind) (c .if1 .left)
 

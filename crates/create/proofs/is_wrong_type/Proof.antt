@@ -1,14 +1,11 @@
+-- `create::is_wrong_type` meets its contract. By the kind. Assumes nothing.
 use Rattle.create.proofs.HousedLaws.{wrong-directory, wrong-file}
 use Rattle.create.proofs.is_wrong_type.Statement.{statement}
 use Rattle.create.proofs.is_wrong_type.Tie as tie
-use Rattle.create.proofs.is_wrong_type.Reads as reads
-use Rattle.create.proofs.is_wrong_type.Lts as lts
 
--- src/lib.rt:77:9
 returns : tie.Need-returns
 returns c = wrong-directory (c .before .args .kind) (c .before .args .ftype) (c .if1 .taken)
 
--- src/lib.rt:73:1
 returns-2 : tie.Need-returns-2
 returns-2 c = wrong-file (c .before .args .kind) (c .before .args .ftype) (c .if1 .left)
 

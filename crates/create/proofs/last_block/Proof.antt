@@ -1,6 +1,7 @@
+-- `create::last_block` meets its contract. The loop's invariant: the last block of what is left is that of the chain. The measure is the blocks left. Assumes nothing.
 use native.Mathlib.Omega.{arith}
 use Prim.Native.Nat.{_<_}
-use mathlib.Core.Path.{_≡_, refl, sym, ap, _∙_}
+use mathlib.Core.Path.{_≡_, refl, sym, _∙_}
 use Rattle.model.specs.Bytes.{view}
 use Rattle.model.specs.Directory.{chain}
 use Rattle.model.specs.Create.{lastBlock}
@@ -8,9 +9,6 @@ use Rattle.directory.specs.Search.{Each}
 use Rattle.create.proofs.EnteredLaws.{last-step, last-end, chain-low, chain-rest}
 use Rattle.create.proofs.last_block.Statement.{statement}
 use Rattle.create.proofs.last_block.Tie as tie
-use Rattle.create.proofs.last_block.Reads as reads
-use Rattle.create.proofs.last_block.Lts as lts
-use Rattle.store.proofs.get_word.Reads as get-word-reads
 
 abbrev Inv-loop : tie.InvT-loop
 Inv-loop img n key used last₀ block₀ left₀ last block left = (lastBlock (view img) last block left ≡ lastBlock (view img) 0 key used) × Each (λ b. b < n) (chain (view img) block left)
@@ -18,40 +16,33 @@ Inv-loop img n key used last₀ block₀ left₀ last block left = (lastBlock (v
 abbrev μ-loop : tie.MeasureT-loop
 μ-loop img n key used last₀ block₀ left₀ last block left = left
 
--- src/lib.rt:169:5
 loop-holds : tie.Need-loop-holds Inv-loop μ-loop
 loop-holds c = (refl, c .before .pre .1)
 
--- src/lib.rt:171:38
 mul-get-word : tie.Need-mul-get-word Inv-loop μ-loop
 mul-get-word c =
     let l = c .before .loop in
     let on = chain-low (c .before .before .before .args .n) (view (c .before .before .before .args .img .now)) (l .block) (l .left) (l .inv .1) (c .loop-test .taken) in
     omega arith
 
--- src/lib.rt:171:38
 add-get-word : tie.Need-add-get-word Inv-loop μ-loop
 add-get-word c =
     let l = c .before .loop in
     let on = chain-low (c .before .before .before .args .n) (view (c .before .before .before .args .img .now)) (l .block) (l .left) (l .inv .1) (c .loop-test .taken) in
     omega arith
 
--- src/lib.rt:171:9
 get-word-requires : tie.Need-get-word-requires Inv-loop μ-loop
 get-word-requires c κs =
     let l = c .before .loop in
     let on = chain-low (c .before .before .before .args .n) (view (c .before .before .before .args .img .now)) (l .block) (l .left) (l .inv .1) (c .loop-test .taken) in
     omega arith
 
--- src/lib.rt:172:9
 sub-left : tie.Need-sub-left Inv-loop μ-loop
 sub-left c = omega arith
 
--- src/lib.rt:169:5
 loop-less : tie.Need-loop-less Inv-loop μ-loop
 loop-less c = omega arith
 
--- src/lib.rt:169:5
 loop-again : tie.Need-loop-again Inv-loop μ-loop
 loop-again c =
     let a = c .before .before .before .before .args in
@@ -62,7 +53,6 @@ loop-again c =
     let rest = chain-rest (a .n) v (l .block) (l .left) (l .inv .1) (c .before .loop-test .taken) in
     (rw (w .ensures .0) (sym step ∙ l .inv .0), rw (w .ensures .0) rest)
 
--- src/lib.rt:162:1
 returns : tie.Need-returns Inv-loop μ-loop
 returns c =
     let a = c .before .before .before .args in

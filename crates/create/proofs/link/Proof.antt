@@ -1,3 +1,4 @@
+-- `create::link` meets its contract. Each store is one layer of the definition. Assumes nothing.
 use native.Mathlib.Omega.{arith}
 use Prim.Native.Nat.{_+_, _*_}
 use mathlib.Core.Path.{ap, _∙_}
@@ -6,46 +7,34 @@ use Rattle.model.specs.Map.{mapAt}
 use borrow.Author.Needs.{needs}
 use Rattle.create.proofs.link.Statement.{statement}
 use Rattle.create.proofs.link.Tie as tie
-use Rattle.create.proofs.link.Reads as reads
-use Rattle.create.proofs.link.Lts as lts
-use Rattle.map.proofs.take.Reads as take-reads
-use Rattle.store.proofs.put_word.Reads as put-word-reads
 
--- src/lib.rt:182:5
 take-requires : tie.Need-take-requires
 unfolding mapAt
 take-requires c κs = omega arith
 
--- src/lib.rt:183:26
 mul-put-word : tie.Need-mul-put-word
 mul-put-word c = search needs
 
--- src/lib.rt:183:5
 put-word-requires : tie.Need-put-word-requires
 put-word-requires c κs = search needs
 
--- src/lib.rt:184:26
 mul-put-word-2 : tie.Need-mul-put-word-2
 mul-put-word-2 c = search needs
 
--- src/lib.rt:184:26
 add-put-word : tie.Need-add-put-word
 add-put-word c = search needs
 
--- src/lib.rt:184:5
 put-word-requires-2 : tie.Need-put-word-requires-2
 put-word-requires-2 c κs = search needs
 
--- src/lib.rt:178:1
 same-length : tie.Need-same-length
 same-length c = search needs
 
--- src/lib.rt:178:1
 returns : tie.Need-returns
 returns c =
     let a = c .before .before .before .before .before .before .before .before .before .before .before .before .before .args in
     c .before .before .put-word2 .ensures
-    ∙ ap (λ (f : Bytes). putWord f (a .last * 512 + 2) (a .z)) (c .before .before .before .before .before .before .put-word .ensures ∙ ap (λ (f : Bytes). putWord f (a .z * 512) (a .last)) (c .before .before .before .before .before .before .before .before .before .before .take .ensures))
+    ∙ ap (λ (f : Bytes). putWord f (a .last * 512 + 2) (a .more)) (c .before .before .before .before .before .before .put-word .ensures ∙ ap (λ (f : Bytes). putWord f (a .more * 512) (a .last)) (c .before .before .before .before .before .before .before .before .before .before .take .ensures))
 
 pub link-spec : {M : Type 1} → statement M
 link-spec =

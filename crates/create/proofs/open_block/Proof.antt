@@ -1,3 +1,4 @@
+-- `create::open_block` meets its contract. A file's block is taken; a directory's header is pasted into it as the 39 bytes that were lent. Assumes nothing.
 use native.Mathlib.Omega.{arith}
 use Prim.Native.Nat.{ℕ, _+_, _-_, _*_}
 use mathlib.Core.Path.{_≡_, _∙_}
@@ -14,64 +15,47 @@ use Rattle.create.proofs.EnteredLaws.{fresh-file, fresh-directory}
 use borrow.Author.Needs.{needs}
 use Rattle.create.proofs.open_block.Statement.{statement}
 use Rattle.create.proofs.open_block.Tie as tie
-use Rattle.create.proofs.open_block.Reads as reads
-use Rattle.create.proofs.open_block.Lts as lts
-use Rattle.entries.proofs.write_subdirectory_header.Reads as write-subdirectory-header-reads
-use Rattle.map.proofs.take.Reads as take-reads
 
--- src/lib.rt:123:5
 take-requires : tie.Need-take-requires
 unfolding mapAt
 take-requires c κs = (omega arith, omega arith)
 
--- src/lib.rt:125:9
 same-length : tie.Need-same-length
 same-length c = search needs
 
--- src/lib.rt:125:9
 returns : tie.Need-returns
 returns c =
     let a = c .before .before .before .before .before .before .before .before .args in
     c .before .before .before .before .take .ensures
     ∙ fresh-file (view (a .img .now)) (a .z) (placeNumber (a .place)) (view (a .name .now)) (part 0 (length (a .name .now))) (asked (a .wanted)) (c .if1 .taken)
 
--- src/lib.rt:128:17
 cast-block : tie.Need-cast-block
 cast-block c = search needs
 
--- src/lib.rt:130:17
 mul-start : tie.Need-mul-start
 mul-start c = search needs
 
--- src/lib.rt:130:17
 add-start : tie.Need-add-start
 add-start c = search needs
 
--- src/lib.rt:131:15
 add-end : tie.Need-add-end
 add-end c = search needs
 
--- src/lib.rt:132:40
 sub-write-subdirectory-header : tie.Need-sub-write-subdirectory-header
 sub-write-subdirectory-header c = search needs
 
--- src/lib.rt:132:40
 part-write-subdirectory-header-start : tie.Need-part-write-subdirectory-header-start
 part-write-subdirectory-header-start c = search needs
 
--- src/lib.rt:132:40
 part-write-subdirectory-header-end : tie.Need-part-write-subdirectory-header-end
 part-write-subdirectory-header-end c = search needs
 
--- src/lib.rt:132:5
 write-subdirectory-header-requires : tie.Need-write-subdirectory-header-requires
 write-subdirectory-header-requires c κs = search needs
 
--- src/lib.rt:119:1
 same-length-2 : tie.Need-same-length-2
 same-length-2 c = search needs
 
--- src/lib.rt:119:1
 returns-2 : tie.Need-returns-2
 returns-2 c =
     let a = c .before .before .before .before .before .before .before .before .before .before .before .before .before .before .args in
