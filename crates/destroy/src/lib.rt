@@ -1,7 +1,7 @@
 // Destroy: a file, or a directory with no entries, leaves its directory, and its blocks are given back.
 // It answers for every image and every path; a refusal has the number of document 01 and changes no byte.
 ghost use mathlib.Core.Path.{_≡_};
-ghost use Prim.Native.Nat.{_*_, _<_};
+ghost use Prim.Native.Nat.{_<_};
 ghost use lib.ListN.{length};
 ghost use Rattle.model.specs.Bytes.{view};
 ghost use Rattle.model.specs.Kinds.{keyOf};

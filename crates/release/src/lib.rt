@@ -2,7 +2,7 @@
 // block that is given back holds part of it: what is read on the way stays what it was.
 ghost use mathlib.Core.Path.{_≡_};
 ghost use mathlib.Core.List.{_∷_};
-ghost use Prim.Native.Nat.{_+_, _*_, _≤_, _<_};
+ghost use Prim.Native.Nat.{_≤_, _<_};
 ghost use Rattle.model.specs.Bytes.{view};
 ghost use Rattle.model.specs.Directory.{mapPlace, chain};
 ghost use Rattle.model.specs.Calls.{givenAll};
