@@ -12,4 +12,9 @@ pub mod OfFile
 pub mod OfChecks
 pub mod OfModel
 pub mod OfSound
+pub mod OfEntries
+pub mod OfRelease
+pub mod OfGrowth
+pub mod OfPour
+pub mod OfShrink
 pub mod OfOpening

@@ -3,6 +3,8 @@ use mathlib.Core.Path.{_≡_, refl, sym, _∙_}
 use Rattle.determined.proofs.Determined.{Determined, Nothing-seen, none-seen}
 use Rattle.directory.proofs.kind_for.Reads as kind-for-reads
 use Rattle.directory.proofs.kind_for.Kinds as kind-for-kinds
+use Rattle.directory.proofs.height_for.Reads as height-for-reads
+use Rattle.directory.proofs.height_for.Kinds as height-for-kinds
 use Rattle.directory.proofs.decode.Reads as decode-reads
 use Rattle.directory.proofs.decode.Kinds as decode-kinds
 use Rattle.directory.proofs.slot_at.Reads as slot-at-reads
@@ -18,6 +20,9 @@ use Rattle.directory.proofs.lookup.Kinds as lookup-kinds
 
 pub kind-for-one : Determined _ kind-for-kinds.ps kind-for-kinds.r kind-for-reads.Post Nothing-seen (λ _ _ _. none-seen)
 kind-for-one κs a r₁ r₂ w₁ w₂ p q = (p ∙ sym q, refl)
+
+pub height-for-one : Determined _ height-for-kinds.ps height-for-kinds.r height-for-reads.Post Nothing-seen (λ _ _ _. none-seen)
+height-for-one κs a r₁ r₂ w₁ w₂ p q = (p .0 ∙ sym (q .0), refl)
 
 pub decode-one : Determined _ decode-kinds.ps decode-kinds.r decode-reads.Post Nothing-seen (λ _ _ _. none-seen)
 decode-one κs a r₁ r₂ w₁ w₂ p q = (p ∙ sym q, refl)

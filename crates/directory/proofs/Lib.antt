@@ -3,3 +3,4 @@ pub mod SlotLaws
 pub mod SearchLaws
 pub mod LookupLaws
 pub mod AnswerLaws
+pub mod KindLaws

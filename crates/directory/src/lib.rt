@@ -7,6 +7,7 @@ ghost use Prim.Native.Nat.{_+_, _*_, _≤_, _<_};
 ghost use lib.ListN.{length};
 ghost use Rattle.model.specs.Bytes.{view, word, long};
 ghost use Rattle.model.specs.Names.{properParts, properPath};
+ghost use Rattle.model.specs.File.{heightFor};
 ghost use Rattle.model.specs.Kinds.{kindFor};
 ghost use Rattle.model.specs.Directory.{at, volume, sort, vacant, along};
 ghost use Rattle.model.specs.Calls.{target};
@@ -73,7 +74,7 @@ enum Inner {
 }
 
 // Document 01: one match with ranges picks the kind of a data file.
-pub fn kind_for(eof: u32, key: u16) -> Kind
+pub fn kind_for(eof: usize, key: u16) -> Kind
     ensures { λ r. ⌜ r ≡ kindFor eof key ⌝ }
 {
     match eof {
@@ -81,6 +82,14 @@ pub fn kind_for(eof: u32, key: u16) -> Kind
         513..=131072 => Kind::Sapling(key),
         _ => Kind::Tree(key),
     }
+}
+
+// The height of a data file with this EOF: 0 seedling, 1 sapling, 2 tree.
+pub fn height_for(eof: usize) -> usize
+    ensures { λ r. ⌜ (r ≡ heightFor eof) × (r ≤ 2) ⌝ }
+{
+    let kind = kind_for(eof, 0);
+    model::kind_number(kind) as usize - 1
 }
 
 fn word_at(slot: &[u8], at: usize) -> u16

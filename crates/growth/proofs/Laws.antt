@@ -10,8 +10,6 @@ use borrow.Author.Tests.{eq-eqb, ne-eqb, lt-ltb, le-ltb, le-leb, lt-leb}
 use Rattle.model.specs.Bytes.{Bytes, clear}
 use Rattle.model.specs.Map.{mapBlocks, mapAt, free, room, lowest, firstFree}
 use Rattle.model.specs.Directory.{mapPlace, at, sort, key, eof}
-use Rattle.model.specs.Kinds.{kindFor, kindNumber}
-use Rattle.model.specs.declared.Kind.the-variants.{Seedling, Sapling, Tree}
 use Rattle.model.specs.File.{heightFor, height, span, pointer, above, dataBlock, nodes}
 use Rattle.model.specs.Grow.{zeroedFrom, topped, raised, raisedKey}
 use Rattle.model.specs.Write.{noted, grown, grownKey}
@@ -42,24 +40,6 @@ first-lowest w n = sym (lowest-from mapPlace w n 0 (omega arith) (λ c l. absurd
 pub fit-deep : {n : ℕ} {w : Bytes} (h : ℕ) {q k : ℕ} → Fit n w h q k → Deep n w h k
 fit-deep zero F = fit-key F
 fit-deep (suc h) F = (fit-key F, λ i l z. fit-deep h (fit-below F l z))
-
--- heights
-heights : Bool → Bool → ℕ
-heights b c = kindNumber (elim b [ true ↦ Seedling 0 | false ↦ elim c [ true ↦ Sapling 0 | false ↦ Tree 0 ] ]) - 1
-
-height-is : (e : ℕ) → heightFor e ≡ heights (leb e 512) (leb e 131072)
-unfolding heightFor kindFor heights
-height-is e = refl
-
-module _ (e : ℕ) where
-  pub height-low : e ≤ 512 → 0 ≡ heightFor e
-  height-low l = sym (height-is e ∙ rw (le-leb e 512 l) (unfold heights in refl))
-
-  pub height-middle : (e ≤ 512 → ⊥) → e ≤ 131072 → 1 ≡ heightFor e
-  height-middle z l = sym (height-is e ∙ rw (lt-leb e 512 (omega arith), le-leb e 131072 l) (unfold heights in refl))
-
-  pub height-top : (e ≤ 131072 → ⊥) → 2 ≡ heightFor e
-  height-top z = sym (height-is e ∙ rw (lt-leb e 512 (omega arith), lt-leb e 131072 (omega arith)) (unfold heights in refl))
 
 -- The end of a file.
 pub full-none : (e : ℕ) → e ≡ 0 → false ≡ not (ltb e (span e * 512))

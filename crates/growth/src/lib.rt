@@ -18,19 +18,6 @@ use model::Stamp;
 
 const MAP_BLOCK: usize = 6;
 
-// The height of a file with this EOF.
-pub fn height_for(eof: usize) -> usize
-    ensures { λ r. ⌜ (r ≡ heightFor eof) × (r ≤ 2) ⌝ }
-{
-    if eof <= 512 {
-        return 0;
-    }
-    if eof <= 131072 {
-        return 1;
-    }
-    2
-}
-
 // Pointer i of an index block becomes p.
 pub fn put_pointer(img: &mut [u8], block: usize, i: usize, p: usize)
     requires { ⌜ (i < 256) × (block * 512 + 512 ≤ length (now img)) ⌝ }
@@ -105,7 +92,7 @@ pub fn grow(img: &mut [u8], n: usize, height: usize, key: usize, eof: usize, end
         return key;
     }
     zero_tail(img, n, height, key, eof);
-    raise(img, n, height, height_for(end), key)
+    raise(img, n, height, directory::height_for(end), key)
 }
 
 // The first byte of an entry: the kind of a height, and the name's length as it was.

@@ -46,7 +46,7 @@ fn reach(img: &mut [u8], n: usize, height: usize, key: usize, eof: usize, end: u
     if eof < end {
         return growth::grow(img, n, height, key, eof, end);
     }
-    let to = growth::height_for(end);
+    let to = directory::height_for(end);
     let blocks = span_of(end);
     shrink::shrink(img, n, height, key, to, blocks)
 }
@@ -72,7 +72,7 @@ fn set_end(
     let together = entry.used as usize + free;
     let at = directory::slot_at(place);
     let new_key = reach(img, n, height, key, before, eof);
-    let new_height = growth::height_for(eof);
+    let new_height = directory::height_for(eof);
     growth::note(img, n, at, new_height, new_key, together, eof, stamp);
 }
 
@@ -100,7 +100,7 @@ fn set_entry(
         return Answer::Refused(Refusal::BadPosition);
     }
     let free = map::free_blocks(img, MAP_BLOCK, n);
-    if free + height < growth::height_for(eof) {
+    if free + height < directory::height_for(eof) {
         return Answer::Refused(Refusal::NoRoom);
     }
     set_end(img, n, place, entry, free, eof, stamp);

@@ -13,7 +13,6 @@ use lib.Dec.{eqb, leb}
 use lib.ListN.{length}
 use Rattle.model.specs.Bytes.{Bytes, gather, sum, within, _and_}
 use Rattle.model.specs.Names.{capitalName}
-use Rattle.model.specs.Kinds.{kindNumber}
 use Rattle.model.specs.Directory.{Sort, inactive, directory, improper, file, sortOf, sort, isActive, at, directoryType, volume, volumeBlock, previous, next, headerKind, activeCount, field, ftype, key, used, eof, directoryKey, chain, slots, slotsBelow, kids, active}
 use Rattle.model.specs.File.{Node, heightFor, span, nodes, blocks, blocksOf}
 use Rattle.model.specs.Walk.{visit}
@@ -76,13 +75,6 @@ module _ (s : Seen) (r : Bool) (o : Option Seen) (answer : outcome r s ≡ o) wh
 
   pub when-refused : r ≡ false → none ≡ o
   when-refused q = sym (ap (λ (r : Bool). outcome r s) q) ∙ answer
-
--- A kind's number is 1 at least.
-pub kind-least : (k : Kind) → 1 ≤ kindNumber k
-kind-least (Seedling b) = omega arith
-kind-least (Sapling b) = omega arith
-kind-least (Tree b) = omega arith
-kind-least (Directory b) = omega arith
 
 -- A data file: its type, its height, then its blocks and how many there are.
 module _ (n : ℕ) (v : Bytes) (h type e k u : ℕ) (s : Seen) where

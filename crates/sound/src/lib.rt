@@ -56,8 +56,7 @@ fn file_blocks(eof: u32) -> usize
 fn height_of(eof: u32) -> usize
     ensures { λ r. ⌜ r ≡ heightFor eof ⌝ }
 {
-    let kind = directory::kind_for(eof, 0);
-    model::kind_number(kind) as usize - 1
+    directory::height_for(eof as usize)
 }
 
 // A data file of a height, with its key and what else its entry says.

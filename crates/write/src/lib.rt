@@ -54,7 +54,7 @@ fn need(img: &[u8], n: usize, place: Place, entry: Entry, position: usize, size:
     let height = opening::height_of(kind);
     let key = model::key_of(kind) as usize;
     let end = largest(entry.eof as usize, position + size);
-    let goal = growth::height_for(end);
+    let goal = directory::height_for(end);
     let past = (position + size - 1) / 512 + 1;
     pour::need(img, n, height, key, goal, position / 512, past)
 }
@@ -81,7 +81,7 @@ fn put_data(
     let eof = entry.eof as usize;
     let together = entry.used as usize + free;
     let end = largest(eof, position + buffer.len());
-    let goal = growth::height_for(end);
+    let goal = directory::height_for(end);
     let at = directory::slot_at(place);
     let new_key = growth::grow(img, n, height, key, eof, end);
     pour::pour(img, n, goal, new_key, position, buffer);
