@@ -196,7 +196,7 @@ fn gain(img: &mut [u8], start: usize, used: usize, last: usize, z: usize)
     store::put_long(img, start + 0x15, eof + BLOCK);
 }
 
-// $48; then the entry, in an inactive slot of the directory that begins at `key`.
+// $48; then the entry, in an inactive slot of its directory.
 fn create_at(
     img: &mut [u8],
     n: usize,
