@@ -8,15 +8,15 @@ use native.Mathlib.Omega.{arith}
 use native.Mathlib.Numerals.{add-one}
 use borrow.Author.Tests.{eq-eqb, ne-eqb, lt-ltb, le-ltb, le-leb, lt-leb}
 use Rattle.model.specs.Bytes.{Bytes, clear}
-use Rattle.model.specs.Map.{mapBlocks, mapAt, free, room, lowest, firstFree}
+use Rattle.model.specs.Map.{mapBlocks, mapAt, room, lowest, firstFree}
 use Rattle.model.specs.Directory.{mapPlace, at, sort, key, eof}
-use Rattle.model.specs.File.{heightFor, height, span, pointer, above, dataBlock, nodes}
+use Rattle.model.specs.File.{heightFor, height, span, dataBlock, nodes}
 use Rattle.model.specs.Grow.{zeroedFrom, topped, raised, raisedKey}
 use Rattle.model.specs.Write.{noted, grown, grownKey}
 use Rattle.model.specs.Calls.{backedUp}
 use Rattle.model.specs.declared.Stamp.{Stamp}
 use Rattle.model.proofs.BitLaws.{lowest-free, lowest-from, room-lowest, mapAt-in}
-use Rattle.model.proofs.Laws.Weigh.{weigh, each, size, nodes-length}
+use Rattle.model.proofs.Laws.Weigh.{each, size, nodes-length}
 use Rattle.model.proofs.Laws.Move.{Fit, Move, move-fit, fit-key, fit-below}
 use Rattle.model.proofs.Laws.Take.{topped-move, topped-weigh}
 use Rattle.model.proofs.Laws.Room.{move-room}

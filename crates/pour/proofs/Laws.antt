@@ -1,8 +1,8 @@
 -- Blocks reached with a hint and data poured: each step is the plain one, and keeps what the next needs.
 use Prim.Native.Nat.{ℕ, zero, suc, _+_, _-_, _*_, _≤_, _<_, _/_, _%_, _^_}
-use mathlib.Core.Path.{_≡_, refl, sym, ap, _∙_}
+use mathlib.Core.Path.{_≡_, refl, sym, _∙_}
 use mathlib.Core.Bool.{Bool, true, false}
-use lib.Dec.{ltb, eqb}
+use lib.Dec.{eqb}
 use native.Mathlib.Omega.{arith}
 use borrow.Author.Tests.{eqb-true, eqb-false, eq-eqb, ne-eqb, lt-ltb}
 use Rattle.model.specs.Bytes.{Bytes, Octets, sum, run, is}
@@ -12,10 +12,10 @@ use Rattle.model.specs.File.{pointer, putPointer, above, dataBlock}
 use Rattle.model.specs.Grow.{backed, lacksBlock, lacksIndex, need}
 use Rattle.model.specs.Write.{laid, poured}
 use Rattle.model.proofs.ByteLaws.{at-or-off, paste-out, octets-paste}
-use Rattle.model.proofs.BitLaws.{is-yes, is-no, lowest-from, lowest-free, lowest-below, room-lowest}
+use Rattle.model.proofs.BitLaws.{is-yes, lowest-from, lowest-free, lowest-below, room-lowest}
 use Rattle.model.proofs.Laws.Frame.{Alike}
 use Rattle.model.proofs.Laws.Weigh.{each, has-key, Blank, pointer-blank}
-use Rattle.model.proofs.Laws.Move.{by-lt, Fit, Move, move-fit, fit-key, fit-some, free-some, fit-below, lift-pointer}
+use Rattle.model.proofs.Laws.Move.{Fit, Move, move-fit, fit-key, fit-some, free-some, fit-below, lift-pointer}
 use Rattle.model.proofs.Laws.Take.{hung-move, hung-weigh, hung-at, hung-blank, backed-work, Still, data-still}
 use Rattle.model.proofs.Laws.Room.{move-room}
 use Rattle.model.proofs.Laws.Need.{data-hole, data-at, backed-complete, lacks, need-lacks, miss-lacks}

@@ -1,7 +1,7 @@
 // Data laid in a file, file block by file block: what is missing is counted first, then taken, and the data are copied.
 // A file has a height (0 seedling, 1 sapling, 2 tree) and a key. Document 01, "Growing".
 ghost use mathlib.Core.Path.{_≡_};
-ghost use Prim.Native.Nat.{ℕ, _+_, _-_, _*_, _/_, _%_, _^_, _≤_, _<_, min, max};
+ghost use Prim.Native.Nat.{_+_, _-_, _*_, _/_, _%_, _^_, _≤_, _<_, min, max};
 ghost use lib.ListN.{length};
 ghost use Rattle.model.specs.Bytes.{view, sum, run};
 ghost use Rattle.model.specs.Map.{lowest};

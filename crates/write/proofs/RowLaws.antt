@@ -1,5 +1,5 @@
 -- What write answers: row by row for the entry at a place, and by what the path leads to. Assumes nothing.
-use Prim.Native.Nat.{ℕ, _+_, _-_, _≤_, _<_, _/_, _%_, max}
+use Prim.Native.Nat.{ℕ, _+_, _-_, _≤_, _<_, _/_, _%_}
 use mathlib.Core.Path.{_≡_, refl, sym, ap, _∙_}
 use mathlib.Core.List.{List, [], _∷_}
 use mathlib.Core.Bool.{Bool, true, false, not}
@@ -9,11 +9,10 @@ use native.Mathlib.Omega.{arith}
 use borrow.Author.Tests.{eq-eqb, ne-eqb, lt-ltb, le-ltb, ltb-false}
 use Rattle.model.specs.Bytes.{Bytes, Octets, view, _or_}
 use Rattle.model.specs.Map.{room}
-use Rattle.model.specs.Directory.{volume, sort, eof, access, mapBlock, mapPlace, there}
-use Rattle.model.specs.File.{eofMost, heightFor, height}
+use Rattle.model.specs.Directory.{volume, sort, eof, access, mapBlock, mapPlace}
+use Rattle.model.specs.File.{eofMost, height}
 use Rattle.model.specs.Refusals.{refusalNumber, Row, row, first, settle}
 use Rattle.model.specs.Calls.{total, target, spot, notData, allows, writeBit}
-use Rattle.model.specs.Grow.{need}
 use Rattle.model.specs.Write.{written, writeNeed, writeNumber, write}
 use Rattle.model.specs.Answers.{Writes}
 use Rattle.model.specs.declared.Transfer.the-variants as transfer
@@ -26,7 +25,7 @@ use Rattle.model.proofs.RefusalLaws.{settle-refused, settle-accepted, number-re
 use Rattle.directory.specs.Slots.{placeNumber}
 use Rattle.directory.specs.declared.Home.{Home}
 use Rattle.opening.specs.Opened.{openedBy}
-use Rattle.opening.specs.Sorts.{isFolder, heightOf}
+use Rattle.opening.specs.Sorts.{heightOf}
 use Rattle.opening.specs.declared.Opened.{Opened}
 use Rattle.opening.specs.declared.Opened.the-variants as opened
 use Rattle.opening.proofs.VolumeLaws.{Fits}

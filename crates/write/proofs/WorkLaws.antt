@@ -1,16 +1,14 @@
 -- The work of write: each step finds what it needs, and together they are the definition. Assumes nothing.
-use Prim.Native.Nat.{ℕ, _+_, _-_, _*_, _≤_, _<_, _/_, max}
-use mathlib.Core.Path.{_≡_, refl, sym, ap, _∙_}
+use Prim.Native.Nat.{ℕ, _+_, _-_, _≤_, _<_, _/_, max}
+use mathlib.Core.Path.{_≡_, ap, _∙_}
 use native.Mathlib.Omega.{arith}
 use native.Mathlib.Nat.{add-zero, zero-add}
 use Rattle.model.specs.Bytes.{Bytes, Octets}
 use Rattle.model.specs.Map.{room}
-use Rattle.model.specs.Kinds.{keyOf}
 use Rattle.model.specs.Directory.{at, mapPlace, sort, key, used, eof}
 use Rattle.model.specs.File.{heightFor, height, span, above}
 use Rattle.model.specs.Grow.{need}
-use Rattle.model.specs.Write.{noted, grown, grownKey, poured, touched, written}
-use Rattle.model.specs.declared.Entry.{Entry}
+use Rattle.model.specs.Write.{grown, grownKey, poured, touched, written}
 use Rattle.model.specs.declared.Stamp.{Stamp}
 use Rattle.model.proofs.Laws.Move.{Fit, Move, move-then}
 use Rattle.model.proofs.Laws.Need.{lacks, need-keys}

@@ -1,11 +1,11 @@
 -- `growth::raise` meets its contract: what is left to take gives the same file; the measure is the height left. Assumes nothing.
 use Prim.Native.Nat.{_-_, _*_, _≤_}
-use mathlib.Core.Path.{_≡_, refl, sym, ap, _∙_}
+use mathlib.Core.Path.{_≡_, refl, sym, _∙_}
 use lib.ListN.{length}
 use Rattle.model.specs.Bytes.{view}
 use Rattle.model.specs.Map.{room}
 use Rattle.model.specs.Directory.{mapPlace}
-use Rattle.model.specs.Grow.{topped, raised, raisedKey}
+use Rattle.model.specs.Grow.{raised, raisedKey}
 use Rattle.model.proofs.Laws.Move.{Fit}
 use Rattle.growth.proofs.Laws.{raised-none, key-none, low-in, raise-on}
 use native.Mathlib.Omega.{arith}

@@ -1,9 +1,7 @@
 -- `growth::top` meets its contract: the lowest free block, taken, with the key as its pointer 0. Assumes nothing.
-use mathlib.Core.Path.{_≡_, ap, _∙_}
+use mathlib.Core.Path.{ap, _∙_}
 use Prim.Native.Nat.{_<_}
 use Rattle.model.specs.Bytes.{view}
-use Rattle.model.specs.Map.{lowest}
-use Rattle.model.specs.Directory.{mapPlace}
 use Rattle.model.specs.File.{putPointer}
 use Rattle.growth.proofs.Laws.{map-fits, bit-fits, first-lowest}
 use native.Mathlib.Omega.{arith}

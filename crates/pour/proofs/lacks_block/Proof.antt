@@ -1,6 +1,6 @@
 -- `pour::lacks_block` meets its contract: past what the height reaches, a hole, or there. Assumes nothing.
-use mathlib.Core.Path.{_≡_, sym, _∙_}
-use Prim.Native.Nat.{_^_, _≤_, _<_}
+use mathlib.Core.Path.{sym, _∙_}
+use Prim.Native.Nat.{_^_, _<_}
 use Rattle.model.specs.Bytes.{view}
 use Rattle.pour.proofs.CountLaws.{block-far, block-hole, block-there}
 use native.Mathlib.Omega.{arith}

@@ -1,7 +1,6 @@
 -- `pour::lay` meets its contract: one run is copied. Assumes nothing.
-use Prim.Native.Nat.{_+_, _-_, _*_, min, max}
-use mathlib.Core.Path.{_≡_, ap, _∙_}
-use lib.ListN.{length}
+use Prim.Native.Nat.{_+_, _-_, _*_, max}
+use mathlib.Core.Path.{ap, _∙_}
 use Rattle.model.specs.Bytes.{view, paste, from}
 use Rattle.pour.specs.Pouring.{laidIn}
 use native.Mathlib.Omega.{arith}

@@ -1,9 +1,7 @@
 -- `pour::reach` meets its contract: the pointer's block, or the lowest free one, found from the hint on. Assumes nothing.
 use Prim.Native.Nat.{_<_}
-use mathlib.Core.Path.{_≡_, sym, ap, _∙_}
+use mathlib.Core.Path.{_≡_, ap, _∙_}
 use Rattle.model.specs.Bytes.{view}
-use Rattle.model.specs.Map.{lowest}
-use Rattle.model.specs.Directory.{mapPlace}
 use Rattle.model.specs.File.{pointer, putPointer}
 use Rattle.growth.proofs.Laws.{map-fits, bit-fits}
 use Rattle.pour.proofs.Laws.{reach-there, told-there, low-is, reach-hole, told-hole}

@@ -1,15 +1,14 @@
 -- `write::need` meets its contract: the need of the file blocks touched. Assumes nothing.
-use Prim.Native.Nat.{_+_, _-_, _/_, _≤_, _<_, max}
-use mathlib.Core.Path.{_≡_, sym, ap, _∙_}
+use Prim.Native.Nat.{_-_, _/_}
+use mathlib.Core.Path.{ap, _∙_}
 use Rattle.model.specs.Bytes.{view}
 use Rattle.model.specs.Kinds.{keyOf}
 use Rattle.model.specs.File.{heightFor}
 use Rattle.model.specs.Grow.{need as needs-of}
 use Rattle.model.specs.Write.{touched}
-use Rattle.model.proofs.Laws.Entry.{height-most}
 use Rattle.growth.proofs.Laws.{fit-deep}
 use Rattle.opening.specs.Sorts.{heightOf}
-use Rattle.held.proofs.HeldLaws.{held-fit, held-tall, held-eof}
+use Rattle.held.proofs.HeldLaws.{held-fit, held-tall}
 use Rattle.write.proofs.WorkLaws.{goal-tall}
 use native.Mathlib.Omega.{arith}
 use borrow.Author.Needs.{needs}

@@ -1,6 +1,6 @@
 -- `write::put_data` meets its contract: grown, poured, and the entry written anew. Assumes nothing.
-use Prim.Native.Nat.{ℕ, _+_, _-_, _/_, _≤_, _<_, max}
-use mathlib.Core.Path.{_≡_, refl, sym, ap, _∙_}
+use Prim.Native.Nat.{_+_, _-_, _/_, _≤_}
+use mathlib.Core.Path.{_≡_, ap, _∙_}
 use lib.ListN.{length}
 use Rattle.model.specs.Bytes.{view, Octets}
 use Rattle.model.specs.Map.{room}
@@ -13,7 +13,7 @@ use Rattle.model.proofs.Laws.Entry.{Ready}
 use Rattle.growth.specs.Growth.{notedAs}
 use Rattle.directory.specs.Slots.{placeNumber}
 use Rattle.held.proofs.HeldLaws.{held-fit, held-tall, held-eof, held-slot}
-use Rattle.write.proofs.WorkLaws.{Works, keys-enough, works}
+use Rattle.write.proofs.WorkLaws.{keys-enough, works}
 use native.Mathlib.Omega.{arith}
 use borrow.Author.Needs.{needs}
 use Rattle.write.proofs.put_data.Statement.{statement}

@@ -1,5 +1,5 @@
 -- `write::write_entry` meets its contract: each refusal is one row of the table, in its order; then the data. Assumes nothing.
-use mathlib.Core.Path.{_≡_, sym, _∙_}
+use mathlib.Core.Path.{sym, _∙_}
 use lib.ListN.{length}
 use Rattle.model.specs.Bytes.{view}
 use Rattle.model.specs.declared.Refusal.the-variants.{BadKind, Locked, BadPosition, NoRoom}
