@@ -1,5 +1,5 @@
 -- A file whose EOF changes: its tree moves, and the entry that is written is the one of the definition. Assumes nothing.
-use Prim.Native.Nat.{ℕ, _+_, _-_, _*_, _≤_, _<_, _/_}
+use Prim.Native.Nat.{ℕ, _+_, _-_, _≤_, _<_}
 use mathlib.Core.Path.{_≡_, refl, sym, ap, _∙_}
 use mathlib.Core.Bool.{Bool, true, false}
 use lib.Dec.{ltb}
@@ -14,18 +14,17 @@ use Rattle.model.specs.Write.{noted, grown, grownKey}
 use Rattle.model.specs.SetEof.{sunk, sunkKey, pruned, shrunk, shrunkKey, eofSet}
 use Rattle.model.specs.declared.Entry.{Entry}
 use Rattle.model.specs.declared.Stamp.{Stamp}
-use Rattle.model.proofs.Laws.Move.{Fit, Move, move-fit, move-then}
+use Rattle.model.proofs.Laws.Move.{Move, move-fit, move-then}
 use Rattle.model.proofs.Laws.Room.{first-zero}
-use Rattle.model.proofs.Laws.Entry.{Ready, fit, was-tall, was-used, eof-most}
+use Rattle.model.proofs.Laws.Entry.{Ready, fit, was-tall, was-used}
 use Rattle.model.proofs.Laws.Grown.{height-le, span-some, grow}
 use Rattle.model.proofs.Laws.Give.{sunk-move}
 use Rattle.model.proofs.Laws.Prune.{prune, prune-move}
-use Rattle.model.proofs.Laws.Facts.{mine-in}
-use Rattle.model.proofs.Laws.One.{slot-mine}
 use Rattle.growth.specs.Growth.{grownFrom, grownKeyFrom, notedAs}
 use Rattle.growth.proofs.Laws.{grown-at, grown-key-at, room-after, noted-after}
 use Rattle.opening.specs.Sorts.{heightOf}
-use Rattle.resize.specs.Ends.{resized, resizedKey, Held}
+use Rattle.held.specs.Held.{Held}
+use Rattle.resize.specs.Ends.{resized, resizedKey}
 
 -- The two ways.
 module _ (n : ℕ) (v : Bytes) (h k o e : ℕ) where
@@ -112,19 +111,6 @@ module _ {n : ℕ} {v : Bytes} {a d h : ℕ} (R : Ready n v a d h) (e : ℕ) (sm
 
 -- The work of set EOF by the decoded entry x.
 module _ {n : ℕ} {v : Bytes} {s : ℕ} {x : Entry} (H : Held n v s x) where
-  pub held-fit : Fit n v (heightOf (x .kind)) 0 (keyOf (x .kind))
-  held-fit = rw (H .keyed) (fit (H .ready))
-
-  pub held-tall : heightOf (x .kind) ≡ heightFor (x .eof)
-  held-tall = rw (H .ends) (was-tall (H .ready))
-
-  pub held-eof : x .eof < 16777216
-  held-eof = rw (H .ends) (eof-most (H .ready))
-
-  pub held-slot : at s + 39 ≤ n * 512
-  unfolding at
-  held-slot = let i = mine-in (H .ready .sound) (s / 13) (slot-mine (H .ready .sound) (H .ready .spot)) in omega arith
-
   -- g and k are its height and key; w and l what is left of image and key
   module _ (e : ℕ) (small : e < 16777216) (free : ℕ) (counted : free ≡ room mapPlace v n) (enough : heightFor e - heightOf (x .kind) ≤ free) (g k : ℕ)
       (tall : g ≡ heightOf (x .kind)) (first : k ≡ keyOf (x .kind)) (w : Bytes) (l : ℕ) (image : w ≡ resized n v g k (x .eof) e)

@@ -4,7 +4,8 @@ use native.Mathlib.Omega.{arith}
 use Rattle.model.specs.Bytes.{view}
 use Rattle.model.specs.Directory.{mapPlace}
 use Rattle.model.proofs.BitLaws.{room-le}
-use Rattle.resize.proofs.Laws.{held-fit, held-tall, held-eof, held-slot, room-left, end-noted}
+use Rattle.held.proofs.HeldLaws.{held-fit, held-tall, held-eof, held-slot}
+use Rattle.resize.proofs.Laws.{room-left, end-noted}
 use borrow.Author.Needs.{needs}
 use Rattle.resize.proofs.set_end.Statement.{statement}
 use Rattle.resize.proofs.set_end.Tie as tie

@@ -7,7 +7,7 @@ use Rattle.directory.specs.Slots.{placeNumber}
 use Rattle.growth.proofs.Laws.{map-fits}
 use Rattle.opening.specs.Sorts.{heightOf}
 use Rattle.opening.proofs.EntryLaws.{height-small}
-use Rattle.resize.proofs.Laws.{held-tall}
+use Rattle.held.proofs.HeldLaws.{held-tall}
 use Rattle.resize.proofs.EndLaws.{number-folder, told-held, number-locked, number-far, number-full, number-none, end-no, end-done}
 use borrow.Author.Needs.{needs}
 use Rattle.resize.proofs.set_entry.Statement.{statement}
