@@ -281,7 +281,8 @@ pub fn weak_address(random: &mut Random, image: &[u8]) -> usize {
     if !all.is_empty() && random.once_in(2) {
         return random.pick(&all).address() + random.below(SLOT_LENGTH);
     }
-    let number = *random.pick(&structure(image));
+    // The volume directory has its turn also where there are many other blocks.
+    let number = if random.once_in(4) { random.between(2, 5) } else { *random.pick(&structure(image)) };
     let offset = match random.below(4) {
         0 | 1 => random.below(0x2B),
         2 => *random.pick(&[0, 256]) + random.below(8),
