@@ -1,0 +1,2 @@
+-- What the entry writer does in steps.
+pub mod Fields

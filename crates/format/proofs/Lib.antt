@@ -1,0 +1,2 @@
+-- The laws of format: sizes, map bytes, and its outcome.
+pub mod Laws

@@ -1,0 +1,2 @@
+-- What the contracts of relabel cite.
+pub mod Relabeled
