@@ -1,0 +1,3 @@
+-- What the contracts of create cite.
+pub mod Housed
+pub mod Entered

@@ -1,0 +1,2 @@
+-- What the contracts of destroy cite.
+pub mod Gone
