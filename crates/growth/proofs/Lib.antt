@@ -1,0 +1,2 @@
+-- What the proofs of growth share.
+pub mod Laws

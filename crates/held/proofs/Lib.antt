@@ -1,0 +1,2 @@
+-- What callers need of an entry that a path leads to.
+pub mod HeldLaws

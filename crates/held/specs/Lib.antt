@@ -1,0 +1,2 @@
+-- What the contracts of the calls on data files cite.
+pub mod Held

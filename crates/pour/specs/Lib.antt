@@ -1,0 +1,2 @@
+-- What the contracts of pour cite.
+pub mod Pouring

@@ -1,0 +1,3 @@
+-- What the proofs of write share.
+pub mod RowLaws
+pub mod WorkLaws

@@ -1,0 +1,2 @@
+-- What the contracts of write cite.
+pub mod Writing
