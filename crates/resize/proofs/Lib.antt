@@ -1,0 +1,3 @@
+-- The laws that the proofs of resize cite.
+pub mod Laws
+pub mod EndLaws

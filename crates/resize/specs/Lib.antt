@@ -1,0 +1,2 @@
+-- What the contracts of resize cite.
+pub mod Ends

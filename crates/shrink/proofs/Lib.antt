@@ -1,0 +1,2 @@
+-- The laws that the proofs of shrink cite.
+pub mod Laws
