@@ -92,7 +92,7 @@ fn on_image(
     ensures { λ r. ⌜ r .size ≤ length (now (room .entry)) ⌝ }
 {
     let size = state.size;
-    let said = commands::run(line, at, &mut room[0..size], buffer, page, state.used);
+    let said = changes::run(line, at, &mut room[0..size], buffer, page, state.used);
     After {
         size,
         used: said.used,
