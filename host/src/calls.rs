@@ -247,6 +247,17 @@ pub fn get_info(image: &[u8], path: &[u8]) -> Answer<Info> {
     }
 }
 
+/// Where the entry of a path stands, and how many blocks of its directory are read until it is found.
+pub fn find_entry(image: &[u8], path: &[u8]) -> Answer<(Place, usize)> {
+    match existing(image, path)? {
+        Existing::Volume => Ok((header(VOLUME_KEY), 1)),
+        Existing::Entry { directory, place } => {
+            let before = chain(image, directory).into_iter().take_while(|&block| block != place.block).count();
+            Ok((place, before + 1))
+        }
+    }
+}
+
 fn volume_info(image: &[u8]) -> Info {
     let b = block(image, VOLUME_KEY);
     let total = get16(b, 0x29);

@@ -2,7 +2,9 @@
 
 use crate::bytes::BLOCK;
 use crate::calls::{self, Answer, Info, Stamp};
+use crate::directory::Place;
 
+pub const LARGEST_SCRIPT: usize = 1_048_576;
 pub const LONGEST_LINE: usize = 4_096;
 pub const LONGEST_TEXT: usize = 128;
 pub const LARGEST_IMAGE: usize = 4_194_304;
@@ -14,6 +16,9 @@ pub const PREFILL: u8 = 0xA5;
 
 /// Runs a whole script.
 pub fn run(script: &[u8]) -> String {
+    if script.len() > LARGEST_SCRIPT {
+        return "SCRIPT TOO LARGE\n".to_string();
+    }
     let mut machine = Machine::default();
     let mut output = String::new();
     for line in lines(script) {
@@ -92,6 +97,7 @@ impl Machine {
                 Some(plain(calls::set_info(&mut self.image, &path, access, aux, stamp)))
             }
             [b"getinfo", path] => Some(shown(calls::get_info(&self.image, &text(path)?).map(info))),
+            [b"find", path] => Some(shown(calls::find_entry(&self.image, &text(path)?).map(found))),
             [b"space"] => Some(shown(calls::space(&self.image).map(|(total, free)| format!("{total} {free}")))),
             [b"read", path, position, count] => {
                 let (path, position, count) = (text(path)?, number(position, u32::MAX as usize)?, number(count, LARGEST_COUNT)?);
@@ -231,6 +237,10 @@ fn buffer_text(buffer: &[u8]) -> String {
 fn info(i: Info) -> String {
     let (created, modified) = (stamp_text(i.created), stamp_text(i.modified));
     format!("{:02X} {:02X} {:02X} {} {} {} {created} {modified}", i.kind, i.file_type, i.access, i.aux, i.used, i.eof)
+}
+
+fn found((place, read): (Place, usize)) -> String {
+    format!("{} {} {read}", place.block, place.slot)
 }
 
 fn stamp_text(stamp: Stamp) -> String {

@@ -1,21 +1,20 @@
-//! Every script in replays/ prints what its .out file says.
+//! The stored scripts print what is stored, each under its name.
 
 use std::path::Path;
 
 #[test]
 fn stored_scripts_print_what_is_stored() {
-    let folder = Path::new(env!("CARGO_MANIFEST_DIR")).join("../replays");
-    let mut scripts = 0;
-    for item in std::fs::read_dir(folder).expect("the folder") {
-        let path = item.expect("an item").path();
-        if path.extension().is_some_and(|extension| extension == "txt") {
-            let script = std::fs::read(&path).expect("a script");
-            let expected = std::fs::read_to_string(path.with_extension("out")).expect("its output");
-            assert!(host::replay::run(&script) == expected, "{} prints something else", path.display());
-            scripts += 1;
-        }
+    let folder = Path::new(env!("CARGO_MANIFEST_DIR")).join("../crates/replays");
+    let names = std::fs::read_to_string(folder.join("args")).expect("the names");
+    let mut rest = std::fs::read_to_string(folder.join("stdout")).expect("what is stored");
+    for name in names.lines() {
+        let script = std::fs::read(folder.join("data").join(name)).expect("a script");
+        let printed = format!("{name}\n{}", host::replay::run(&script));
+        assert!(rest.starts_with(&printed), "{name} prints something else");
+        rest = rest.split_off(printed.len());
     }
-    assert!(scripts > 20);
+    assert!(rest.is_empty());
+    assert!(names.lines().count() > 20);
 }
 
 #[test]

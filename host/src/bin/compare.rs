@@ -8,6 +8,7 @@
 use host::catalog;
 use host::generate::{script, Script};
 use host::random::Random;
+use host::replay::LARGEST_SCRIPT;
 use host::volumes::{build, damage};
 use std::collections::BTreeMap;
 use std::io::Write;
@@ -67,7 +68,7 @@ fn output_of(program: &str, input: &[u8]) -> Vec<u8> {
 
 fn compare_script(program: &str, seed: u64, count: usize, tally: &mut Tally) {
     let made = script(seed, count);
-    let all = made.lines.len();
+    let all = fitting(&made.lines);
     if !agrees(program, &made, all) {
         let length = shortest(program, &made, all);
         tally.add(&made, length - 1);
@@ -76,6 +77,16 @@ fn compare_script(program: &str, seed: u64, count: usize, tally: &mut Tally) {
     }
     tally.add(&made, all);
     tally.scripts += 1;
+}
+
+/// How many of the lines fit into the largest script.
+fn fitting(lines: &[String]) -> usize {
+    let mut size = 0;
+    let fits = |line: &&String| {
+        size += line.len() + 1;
+        size <= LARGEST_SCRIPT
+    };
+    lines.iter().take_while(fits).count()
 }
 
 fn first_lines(lines: &[String], length: usize) -> String {

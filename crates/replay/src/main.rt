@@ -1,0 +1,14 @@
+// `replay`: plays the script that comes on standard input.
+use libc::STDIN_FILENO;
+use player::BUFFER;
+use player::IMAGE;
+use player::PAGE;
+use player::SCRIPT;
+
+fn main() {
+    let mut text = [0u8; SCRIPT];
+    let mut room = [0u8; IMAGE];
+    let mut buffer = [0u8; BUFFER];
+    let mut page = [0u8; PAGE];
+    player::play_file(STDIN_FILENO, &mut text, &mut room, &mut buffer, &mut page);
+}

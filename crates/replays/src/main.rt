@@ -1,0 +1,49 @@
+// Plays the script in each file named by an argument, under its name: the stored scripts of docs/REPLAY.md.
+use libc::STDOUT_FILENO;
+use player::BUFFER;
+use player::IMAGE;
+use player::PAGE;
+use player::SCRIPT;
+
+fn play_file(
+    name: &[u8],
+    text: &mut [u8; SCRIPT],
+    room: &mut [u8; IMAGE],
+    buffer: &mut [u8; BUFFER],
+    page: &mut [u8; PAGE],
+) {
+    io::write_all(STDOUT_FILENO, name);
+    io::write_all(STDOUT_FILENO, b"\n");
+    let file = os::open_read(name);
+    if file < 0 {
+        os::fail(name);
+        return;
+    }
+    player::play_file(file, text, room, buffer, page);
+    libc::close(file);
+}
+
+fn play_argument(
+    i: usize,
+    text: &mut [u8; SCRIPT],
+    room: &mut [u8; IMAGE],
+    buffer: &mut [u8; BUFFER],
+    page: &mut [u8; PAGE],
+) {
+    let mut name = [0u8; 256];
+    let size = os::arg(i, &mut name);
+    if size <= 256 {
+        play_file(&name[0..size], text, room, buffer, page);
+    }
+}
+
+fn main() {
+    let mut text = [0u8; SCRIPT];
+    let mut room = [0u8; IMAGE];
+    let mut buffer = [0u8; BUFFER];
+    let mut page = [0u8; PAGE];
+    let count = os::arg_count();
+    for i in 1..count {
+        play_argument(i, &mut text, &mut room, &mut buffer, &mut page);
+    }
+}

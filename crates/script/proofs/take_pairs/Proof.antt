@@ -1,0 +1,100 @@
+-- `script::take_pairs` meets its contract.
+use Prim.Native.Nat.{_-_, _≤_}
+use mathlib.Core.Path.{_≡_}
+use lib.ListN.{length}
+use borrow.Author.Needs.{needs}
+use Rattle.script.proofs.take_pairs.Statement.{statement}
+use Rattle.script.proofs.take_pairs.Tie as tie
+use Rattle.script.proofs.take_pairs.Reads as reads
+use Rattle.script.proofs.take_pairs.Lts as lts
+use Rattle.script.proofs.no_run.Reads as no-run-reads
+use Rattle.script.proofs.pair_value.Reads as pair-value-reads
+
+abbrev Inv-loop : tie.InvT-loop
+Inv-loop line start end room₀ size count taken₀ room taken = (taken ≤ count) × (length room ≡ length room₀)
+
+abbrev μ-loop : tie.MeasureT-loop
+μ-loop line start end room₀ size count taken₀ room taken = count - taken
+
+sub-size : tie.Need-sub-size Inv-loop μ-loop
+sub-size c = search needs
+
+no-run-requires : tie.Need-no-run-requires Inv-loop μ-loop
+no-run-requires c κs = search needs
+
+returns : tie.Need-returns Inv-loop μ-loop
+returns c = search needs
+
+no-run-requires-2 : tie.Need-no-run-requires-2 Inv-loop μ-loop
+no-run-requires-2 c κs = search needs
+
+returns-2 : tie.Need-returns-2 Inv-loop μ-loop
+returns-2 c = search needs
+
+loop-holds : tie.Need-loop-holds Inv-loop μ-loop
+loop-holds c = search needs
+
+mul-pair-value : tie.Need-mul-pair-value Inv-loop μ-loop
+mul-pair-value c = search needs
+
+add-pair-value : tie.Need-add-pair-value Inv-loop μ-loop
+add-pair-value c = search needs
+
+pair-value-requires : tie.Need-pair-value-requires Inv-loop μ-loop
+pair-value-requires c κs = search needs
+
+no-run-requires-3 : tie.Need-no-run-requires-3 Inv-loop μ-loop
+no-run-requires-3 c κs = search needs
+
+same-length : tie.Need-same-length Inv-loop μ-loop
+same-length c = search needs
+
+returns-3 : tie.Need-returns-3 Inv-loop μ-loop
+returns-3 c = search needs
+
+cast-room : tie.Need-cast-room Inv-loop μ-loop
+cast-room c = search needs
+
+slice-write-room : tie.Need-slice-write-room Inv-loop μ-loop
+slice-write-room c = search needs
+
+add-taken : tie.Need-add-taken Inv-loop μ-loop
+add-taken c = search needs
+
+loop-less : tie.Need-loop-less Inv-loop μ-loop
+loop-less c = search needs
+
+loop-again : tie.Need-loop-again Inv-loop μ-loop
+loop-again c = search needs
+
+same-length-2 : tie.Need-same-length-2 Inv-loop μ-loop
+same-length-2 c = search needs
+
+returns-4 : tie.Need-returns-4 Inv-loop μ-loop
+returns-4 c = search needs
+
+pub take-pairs-spec : {M : Type 1} → statement M
+take-pairs-spec =
+    tie.close
+    (tie.spec
+    Inv-loop
+    μ-loop
+    sub-size
+    no-run-requires
+    returns
+    no-run-requires-2
+    returns-2
+    loop-holds
+    mul-pair-value
+    add-pair-value
+    pair-value-requires
+    no-run-requires-3
+    same-length
+    returns-3
+    cast-room
+    slice-write-room
+    add-taken
+    loop-less
+    loop-again
+    same-length-2
+    returns-4)
