@@ -2,7 +2,7 @@
 // and changes no byte. Its outcome is the one of the definition in model.
 ghost use mathlib.Core.Path.{_≡_};
 ghost use mathlib.Core.Bool.{true, false};
-ghost use Prim.Native.Nat.{ℕ, _+_, _-_, _*_, _≤_, _<_, min};
+ghost use Prim.Native.Nat.{ℕ, _+_, _-_, _*_, _≤_, _<_};
 ghost use lib.ListN.{length};
 ghost use Rattle.model.specs.Bytes.{view, word};
 ghost use Rattle.model.specs.Directory.{mapBlock, mapPlace};
@@ -99,12 +99,6 @@ pub fn get_info(img: &[u8], path: &[u8]) -> InfoAnswer
     }
 }
 
-fn least(a: usize, b: usize) -> usize
-    ensures { λ r. ⌜ r ≡ min a b ⌝ }
-{
-    if a < b { a } else { b }
-}
-
 // $4B, $4E, $4D and $4C; then the bytes of the file from a position on, as many as the buffer takes.
 fn read_file(img: &[u8], n: usize, entry: Entry, position: usize, buffer: &mut [u8]) -> Transfer
     requires { ⌜ (n ≤ 65535) × (length (now img) ≡ n * 512) × (isFolder (entry .kind) ≡ false → Readable n (view (now img)) entry) ⌝ }
@@ -128,7 +122,7 @@ fn read_file(img: &[u8], n: usize, entry: Entry, position: usize, buffer: &mut [
             return Transfer::Refused(Refusal::EndOfFile);
         }
     }
-    let count = least(size, eof - position);
+    let count = store::least(size, eof - position);
     file::read_bytes(
         img,
         n,

@@ -27,6 +27,7 @@ use Rattle.model.proofs.Laws.Keep.{directory-kids}
 use Rattle.model.proofs.Laws.Facts.{Seen, block-inside, chain-inside, slot-inside, directory-key, seen-directory, mine-apart, volume-seen, volume-directory}
 use Rattle.model.proofs.Laws.Most.{directory-most}
 use Rattle.model.proofs.Laws.Lookup as look
+use Rattle.model.proofs.Laws.Created.{full-low}
 use Rattle.model.proofs.Laws.Extend.{Extends, grown-key, grown-free}
 use Rattle.directory.specs.Slots.{placeNumber, placeOf}
 use Rattle.directory.specs.Lookup.{homeOf}
@@ -41,32 +42,6 @@ use Rattle.create.specs.declared.Housed.{Housed}
 use Rattle.create.specs.declared.Housed.the-variants as housed
 use Rattle.create.proofs.EnteredLaws.{entered-is, inNumber}
 use Rattle.create.proofs.HousedLaws.{housedOr, housed-first, housed-in}
-
--- A directory with no inactive slot has few blocks.
-vacant-none : (v : Bytes) (ss : List ℕ) → vacant v ss ≡ none → active v ss ≡ length ss
-unfolding vacant sum
-vacant-none v [] e = refl
-vacant-none v (t ∷ ss) e = go (sort v t) refl e (vacant-none v ss)
-  where
-    go : (K : Sort) → sort v t ≡ K → _≡_ {A = Option ℕ} (elim (isActive K) [ true ↦ vacant v ss | false ↦ some t ]) none
-        → (vacant v ss ≡ none → active v ss ≡ length ss) → live K + active v ss ≡ suc (length ss)
-    go inactive f g r = let z : _≡_ {A = ℕ} 0 1 = cc in absurd (omega arith)
-    go directory f g r = omega (arith, r g)
-    go improper f g r = omega (arith, r g)
-    go (file k) f g r = omega (arith, r g)
-
-full-low : {n : ℕ} {v : Bytes} (S : Sound n v) (d : ℕ) → Seen v d → sort v d ≡ directory → vacant v (kids v d) ≡ none → used v d < 32767
-full-low {n} {v} S d h e f =
-    omega (
-      arith,
-      S .small,
-      directory-most S d h e,
-      vacant-none v (kids v d) f,
-      ap (length {A = ℕ}) (directory-kids v d e),
-      length-drop 1 (slots (chain v (key v d) (used v d))),
-      slots-length (chain v (key v d) (used v d)),
-      chain-length v (key v d) (used v d),
-    )
 
 -- What soundness gives of the directory d that a path leads to.
 module _ (n : ℕ) (v p : Bytes) (k d : ℕ) (octets : Octets v) (h : sound n v ≡ true) (led : target v p k ≡ missing d) where

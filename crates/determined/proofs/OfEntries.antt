@@ -1,7 +1,9 @@
 -- Equal results of the public functions of entries.
 use mathlib.Core.Path.{_≡_, refl, sym, _∙_}
 use Rattle.model.specs.Bytes.{Bytes, view}
-use Rattle.determined.proofs.Determined.{Determined}
+use Rattle.determined.proofs.Determined.{Determined, Nothing-seen, none-seen}
+use Rattle.entries.proofs.backed_up.Reads as backed-up-reads
+use Rattle.entries.proofs.backed_up.Kinds as backed-up-kinds
 use Rattle.entries.proofs.put_stamp.Reads as put-stamp-reads
 use Rattle.entries.proofs.put_stamp.Kinds as put-stamp-kinds
 use Rattle.entries.proofs.put_name.Reads as put-name-reads
@@ -14,6 +16,9 @@ use Rattle.entries.proofs.write_volume_header.Reads as write-volume-header-read
 use Rattle.entries.proofs.write_volume_header.Kinds as write-volume-header-kinds
 use Rattle.entries.proofs.write_entry.Reads as write-entry-reads
 use Rattle.entries.proofs.write_entry.Kinds as write-entry-kinds
+
+pub backed-up-one : Determined _ backed-up-kinds.ps backed-up-kinds.r backed-up-reads.Post Nothing-seen (λ _ _ _. none-seen)
+backed-up-one κs a r₁ r₂ w₁ w₂ p q = (p ∙ sym q, refl)
 
 pub put-stamp-one : Determined _ put-stamp-kinds.ps put-stamp-kinds.r put-stamp-reads.Post Bytes (λ _ _ w. view (w .0))
 put-stamp-one κs a r₁ r₂ w₁ w₂ p q = (refl, p ∙ sym q)

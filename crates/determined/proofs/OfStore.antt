@@ -2,6 +2,10 @@
 use mathlib.Core.Path.{_≡_, refl, sym, _∙_}
 use Rattle.model.specs.Bytes.{Bytes, view}
 use Rattle.determined.proofs.Determined.{Determined, Nothing-seen, none-seen}
+use Rattle.store.proofs.least.Reads as least-reads
+use Rattle.store.proofs.least.Kinds as least-kinds
+use Rattle.store.proofs.largest.Reads as largest-reads
+use Rattle.store.proofs.largest.Kinds as largest-kinds
 use Rattle.store.proofs.get_word.Reads as get-word-reads
 use Rattle.store.proofs.get_word.Kinds as get-word-kinds
 use Rattle.store.proofs.get_long.Reads as get-long-reads
@@ -22,6 +26,12 @@ use Rattle.store.proofs.copy_run.Reads as copy-run-reads
 use Rattle.store.proofs.copy_run.Kinds as copy-run-kinds
 use Rattle.store.proofs.clear_run.Reads as clear-run-reads
 use Rattle.store.proofs.clear_run.Kinds as clear-run-kinds
+
+pub least-one : Determined _ least-kinds.ps least-kinds.r least-reads.Post Nothing-seen (λ _ _ _. none-seen)
+least-one κs a r₁ r₂ w₁ w₂ p q = (p ∙ sym q, refl)
+
+pub largest-one : Determined _ largest-kinds.ps largest-kinds.r largest-reads.Post Nothing-seen (λ _ _ _. none-seen)
+largest-one κs a r₁ r₂ w₁ w₂ p q = (p ∙ sym q, refl)
 
 pub get-word-one : Determined _ get-word-kinds.ps get-word-kinds.r get-word-reads.Post Nothing-seen (λ _ _ _. none-seen)
 get-word-one κs a r₁ r₂ w₁ w₂ p q = (p .0 ∙ sym (q .0), refl)

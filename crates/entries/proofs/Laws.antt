@@ -1,13 +1,13 @@
 -- What the writers store, as the definitions have it; a slot lent from an image and given back; a name lent as a part. Assumes nothing.
 use mathlib.Core.Path.{_≡_, refl, sym, ap, _∙_, fun-ext}
 use mathlib.Core.List.{List, _++_}
-use Prim.Native.Nat.{ℕ, _+_, _-_, _*_, _≤_, _<_}
+use Prim.Native.Nat.{ℕ, _+_, _-_, _*_, _/_, _%_, _≤_, _<_}
 use lib.ListN.{length, take, drop, List·getD-eq-default}
 use native.Mathlib.Omega.{arith}
 use borrow.Author.Tests.{ne-eqb}
 use Rattle.model.specs.Bytes.{Bytes, view, put, paste, from, zeros, clear, digit, putWord}
 use Rattle.model.specs.Names.{Part, part, capital, capitals}
-use Rattle.model.specs.Calls.{stampBytes, putStamp, nameField, putName}
+use Rattle.model.specs.Calls.{stampBytes, putStamp, nameField, putName, backedUp}
 use Rattle.model.specs.Create.{Wanted, entryBytes, subdirectoryHeader}
 use Rattle.model.specs.Format.{headerBytes}
 use Rattle.model.specs.declared.Stamp.{Stamp}
@@ -15,6 +15,15 @@ use Rattle.model.proofs.ByteLaws.{in-or-out, paste-in, paste-at, paste-out, pas
 use Rattle.model.proofs.Laws.Fresh.{name-rest}
 use Rattle.names.proofs.PartLaws.{SameRun}
 use Rattle.entries.specs.Fields.{firstEof}
+
+-- the backup bit is set, or is added
+pub backed-is : (x : ℕ) → x / 32 % 2 ≡ 1 → x ≡ backedUp x
+unfolding backedUp
+backed-is x e = rw e (omega arith)
+
+pub backed-more : (x : ℕ) → (x / 32 % 2 ≡ 1 → ⊥) → x + 32 ≡ backedUp x
+unfolding backedUp
+backed-more x e = let z : x / 32 % 2 ≡ 0 = omega arith in rw z (omega arith)
 
 -- two runs, one behind the other
 two-runs : (f : Bytes) (a : ℕ) (g h : Bytes) → paste (paste f a 2 g) (a + 2) 2 h ≡ paste f a 4 (paste g 2 2 h)

@@ -6,7 +6,7 @@ ghost use lib.ListN.{length};
 ghost use Rattle.model.specs.Bytes.{view, paste};
 ghost use Rattle.model.specs.Names.{capitals, part};
 ghost use Rattle.model.specs.Directory.{place};
-ghost use Rattle.model.specs.Calls.{putStamp, nameField, putName};
+ghost use Rattle.model.specs.Calls.{putStamp, nameField, putName, backedUp};
 ghost use Rattle.model.specs.Format.{headerBytes, volumeHeader};
 ghost use Rattle.model.specs.Create.{entryBytes, subdirectoryHeader};
 ghost use Rattle.entries.specs.Fields.{firstEof, entryFront};
@@ -26,6 +26,16 @@ const DIRECTORY: usize = 0xD;
 
 // What a new file, and a subdirectory's header, may have done to them.
 const ACCESS: u8 = 0xE3;
+
+// An access with the backup bit set.
+pub fn backed_up(access: u8) -> u8
+    ensures { λ r. ⌜ r ≡ backedUp access ⌝ }
+{
+    if access / 0x20 % 2 == 1 {
+        return access;
+    }
+    access + 0x20
+}
 
 // A stamp, date before time.
 pub fn put_stamp(img: &mut [u8], at: usize, stamp: Stamp)

@@ -13,7 +13,6 @@ use Rattle.model.specs.Directory.{mapPlace, at, sort, key, eof}
 use Rattle.model.specs.File.{heightFor, height, span, dataBlock, nodes}
 use Rattle.model.specs.Grow.{zeroedFrom, topped, raised, raisedKey}
 use Rattle.model.specs.Write.{noted, grown, grownKey}
-use Rattle.model.specs.Calls.{backedUp}
 use Rattle.model.specs.declared.Stamp.{Stamp}
 use Rattle.model.proofs.BitLaws.{lowest-free, lowest-from, room-lowest, mapAt-in}
 use Rattle.model.proofs.Laws.Weigh.{each, size, nodes-length}
@@ -180,11 +179,3 @@ module _ {n : ℕ} {w : Bytes} {h k : ℕ} {w′ : Bytes} {h′ k′ : ℕ} (F :
 
   pub noted-after : (s e : ℕ) (t : Stamp) → notedAs w′ (at s) h′ k′ (used + room mapPlace w n - room mapPlace w′ n) e t ≡ noted w′ s h′ k′ e t
   noted-after s e t = rw used-after (noted-at w′ s h′ k′ e t)
-
-pub backed-is : (x : ℕ) → x / 32 % 2 ≡ 1 → x ≡ backedUp x
-unfolding backedUp
-backed-is x e = rw e (omega arith)
-
-pub backed-more : (x : ℕ) → (x / 32 % 2 ≡ 1 → ⊥) → x + 32 ≡ backedUp x
-unfolding backedUp
-backed-more x e = let z : x / 32 % 2 ≡ 0 = omega arith in rw z (omega arith)

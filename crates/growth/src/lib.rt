@@ -103,15 +103,6 @@ fn first_byte(height: usize, old: u8) -> u8
     ((height + 1) * 16) as u8 + old % 16
 }
 
-fn backed_up(access: u8) -> u8
-    ensures { λ r. ⌜ r ≡ backedUp access ⌝ }
-{
-    if access / 32 % 2 == 1 {
-        return access;
-    }
-    access + 32
-}
-
 // Kind, key, blocks used and EOF of the entry at an address.
 fn note_file(img: &mut [u8], at: usize, height: usize, key: usize, used: usize, eof: usize)
     requires { ⌜ (at + 39 ≤ length (now img)) × (height ≤ 2) ⌝ }
@@ -129,7 +120,7 @@ fn note_change(img: &mut [u8], at: usize, access: u8, stamp: Stamp)
     requires { ⌜ at + 39 ≤ length (now img) ⌝ }
     ensures { λ _. ⌜ view (now (img .exit)) ≡ putStamp (put (view (now (img .entry))) (at + 0x1E) (backedUp access)) (at + 0x21) stamp ⌝ }
 {
-    store::put_byte(img, at + 0x1E, backed_up(access));
+    store::put_byte(img, at + 0x1E, entries::backed_up(access));
     entries::put_stamp(img, at + 0x21, stamp);
 }
 

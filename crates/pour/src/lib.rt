@@ -1,7 +1,7 @@
 // Data laid in a file, file block by file block: what is missing is counted first, then taken, and the data are copied.
 // A file has a height (0 seedling, 1 sapling, 2 tree) and a key. Document 01, "Growing".
 ghost use mathlib.Core.Path.{_≡_};
-ghost use Prim.Native.Nat.{_+_, _-_, _*_, _/_, _%_, _^_, _≤_, _<_, min, max};
+ghost use Prim.Native.Nat.{_+_, _-_, _*_, _/_, _%_, _^_, _≤_, _<_};
 ghost use lib.ListN.{length};
 ghost use Rattle.model.specs.Bytes.{view, sum, run};
 ghost use Rattle.model.specs.Map.{lowest};
@@ -169,18 +169,6 @@ fn back(img: &mut [u8], n: usize, height: usize, key: usize, p: usize, hint: usi
     back_master(img, n, key, p, hint)
 }
 
-fn least(a: usize, b: usize) -> usize
-    ensures { λ r. ⌜ r ≡ min a b ⌝ }
-{
-    if a < b { a } else { b }
-}
-
-fn largest(a: usize, b: usize) -> usize
-    ensures { λ r. ⌜ r ≡ max a b ⌝ }
-{
-    if a < b { b } else { a }
-}
-
 // Of the data at a position, what falls into file block p is laid in a block.
 fn lay(img: &mut [u8], block: usize, p: usize, position: usize, buffer: &[u8])
     requires { ⌜ (block * 512 + 512 ≤ length (now img)) × (position + length (now buffer) < 16777216) ⌝ }
@@ -188,8 +176,8 @@ fn lay(img: &mut [u8], block: usize, p: usize, position: usize, buffer: &[u8])
     ensures { λ _. ⌜ view (now (img .exit)) ≡ laidIn (view (now (img .entry))) block p position (view (now (buffer .entry))) (length (now (buffer .entry))) ⌝ }
 {
     let first = p * 512;
-    let start = largest(position, first);
-    let end = least(position + buffer.len(), first + 512);
+    let start = store::largest(position, first);
+    let end = store::least(position + buffer.len(), first + 512);
     store::copy_run(
         img,
         block * 512 + (start - first),

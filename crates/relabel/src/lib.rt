@@ -4,7 +4,7 @@ ghost use mathlib.Core.Path.{_≡_};
 ghost use Prim.Native.Nat.{_+_, _≤_};
 ghost use lib.ListN.{length};
 ghost use Rattle.model.specs.Bytes.{view, put, putWord};
-ghost use Rattle.model.specs.Calls.{putStamp, allows, renameBit, backedUp};
+ghost use Rattle.model.specs.Calls.{putStamp, allows, renameBit};
 ghost use Rattle.model.specs.Info.{setInfo};
 ghost use Rattle.model.specs.Rename.{named, rename as renameCall};
 ghost use Rattle.model.specs.Answers.{Does};
@@ -79,16 +79,6 @@ fn may_rename(access: u8) -> bool
     ensures { λ r. ⌜ r ≡ allows access renameBit ⌝ }
 {
     access / 0x40 % 2 == 1
-}
-
-// An access with the backup bit set.
-fn backed_up(access: u8) -> u8
-    ensures { λ r. ⌜ r ≡ backedUp access ⌝ }
-{
-    if access / 0x20 % 2 == 1 {
-        return access;
-    }
-    access + 0x20
 }
 
 // Whether an entry was found that stands elsewhere.
@@ -176,7 +166,7 @@ fn rename_entry(
     let start = directory::slot_at(place);
     let kind = entry.kind;
     put_names(img, start, kind, name);
-    store::put_byte(img, start + ACCESS, backed_up(access));
+    store::put_byte(img, start + ACCESS, entries::backed_up(access));
     Answer::Done
 }
 

@@ -16,7 +16,7 @@ use Rattle.model.proofs.Laws.Frame.{Alike, pointer-in}
 use Rattle.model.proofs.Laws.Weigh.{Gauge, each, has, part, arm-hole, arm-full, nodes-count, has-key, part-has, weigh-one, part-same, weigh-same}
 use Rattle.model.proofs.Laws.Move.{Off, map-alike, pointer-off, pointer-at, pointer-other, octets-pointer, Fit, Move, move-fit, fit-off, fit-below, lift}
 use Rattle.model.proofs.Laws.Give.{Freed, freed-all, lowered-move, sunk-move}
-use Rattle.model.proofs.Laws.Prune.{prune, prune-move}
+use Rattle.model.proofs.Laws.Prune.{prune, prune-move, cut-move}
 use Rattle.release.specs.Loose.{Loose, tree, limbAt, below}
 use Rattle.release.proofs.Laws.{loose-right, loose-tail, loose-cons, fit-loose, number-free, tree-more, below-step}
 
@@ -58,49 +58,6 @@ module _ (n : ℕ) (v : Bytes) (h k c : ℕ) where
 pub sunk-fit : (n : ℕ) (v : Bytes) (l k h : ℕ) → Fit n v l 0 k → h ≤ l → (w : Bytes) (x : ℕ) → w ≡ sunk mapPlace v h k (l - h)
     → x ≡ sunkKey mapPlace v h k (l - h) → Fit n w h 0 x
 sunk-fit n v l k h F low w x e f = rw (e, f) (move-fit F (sunk-move n (l - h) l h k v (omega arith) F))
-
--- What lies below one pointer is given back and the pointer becomes 0.
-module _ {n : ℕ} {w : Bytes} {h q k i : ℕ} (F : Fit n w (suc h) q k) (il : i < 256) (full : pointer w k i ≡ 0 → ⊥) where
-  abbrev bare : Bytes
-  bare = givenAll mapPlace w (blocksIn (nodes w h (q * 256 + i) (pointer w k i)))
-
-  abbrev cut : Bytes
-  cut = putPointer bare k i 0
-
-  gone : Freed n w (λ b. count b (blocksIn (nodes w h (q * 256 + i) (pointer w k i)))) bare
-  gone =
-      freed-all F (blocksIn (nodes w h (q * 256 + i) (pointer w k i)))
-      (λ b. omega (arith, nodes-count w h (q * 256 + i) (pointer w k i) b, part-has w h q k i b il full))
-
-  cut-key : Off n k
-  cut-key = fit-off F k (has-key w (suc h) q k)
-
-  cut-kept : (b : ℕ) → Off n b → (b ≡ k → ⊥) → Alike 512 w cut b
-  cut-kept b m d j l = pointer-off bare k i 0 b il d j l ∙ gone .kept b m j l
-
-  cut-part : (g : Gauge) (j : ℕ) → j < 256 → (j ≡ i → ⊥) → part g cut h q k j ≡ part g w h q k j
-  cut-part g j m d =
-      part-same g w cut h q k j (pointer-other bare k i 0 j il m d ∙ pointer-in w bare k j (gone .kept k cut-key) m)
-      (λ z. weigh-same g w cut h (q * 256 + j) (pointer w k j) (λ b t.
-      let more = part-has w h q k j b m z in
-      let some : 1 ≤ has w (suc h) q k b = omega arith in
-      cut-kept b (fit-off F b some) (λ e. omega (arith, F .apart b (F .range b some), is-yes b k e))))
-
-  cut-move : Move n w (suc h) q k cut (suc h) q k
-  cut-move =
-      let none : (b : ℕ) → part (each (is b)) cut h q k i ≡ 0 = λ b. arm-hole _ cut q k i (pointer-at bare k i 0 (omega arith)) in
-      let less : (b : ℕ) → has cut (suc h) q k b + has w h (q * 256 + i) (pointer w k i) b ≡ has w (suc h) q k b =
-      λ b. omega (arith, none b, arm-full (λ r p. has w h r p b) w q k i full, weigh-one (each (is b)) w cut h q k i il (cut-part (each (is b)))) in
-      let same = map-alike n bare cut (λ b p r. pointer-off bare k i 0 b il (λ e. cut-key (rw (← e) p) (rw (← e) r))) in
-      record {
-        bytes = octets-pointer bare k i 0 (gone .bytes);
-        rest = same-rest mapPlace n bare cut same (gone .rest);
-        range = λ b m. F .range b (omega (arith, less b));
-        level = λ b l.
-            omega
-            (arith, less b, gone .freed b, nodes-count w h (q * 256 + i) (pointer w k i) b, same-free mapPlace n bare cut same b l);
-        same = λ b l z m. cut-kept b m (λ e. omega (arith, has-key w (suc h) q k, rw e at z));
-      }
 
 -- The three cases of a pointer.
 module _ (P : Bytes → ℕ → ℕ → Bytes) (e h q k i : ℕ) (v : Bytes) where

@@ -1,11 +1,23 @@
 // Bytes, numbers and runs in a slice, read and written: what every other crate does to an image.
 // Each contract says the whole slice afterwards, as bytes by address (specs/Bytes.antt of model).
 ghost use mathlib.Core.Path.{_≡_};
-ghost use Prim.Native.Nat.{_+_, _*_, _≤_, _<_};
+ghost use Prim.Native.Nat.{_+_, _*_, _≤_, _<_, min, max};
 ghost use lib.ListN.{length};
 ghost use Rattle.model.specs.Bytes.{view, put, paste, from, clear, putWord, putLong, word, long, equalBytes};
 ghost use Rattle.model.specs.Map.{allZero};
 ghost use Rattle.model.specs.File.{pointer};
+
+pub fn least(a: usize, b: usize) -> usize
+    ensures { λ r. ⌜ r ≡ min a b ⌝ }
+{
+    if a < b { a } else { b }
+}
+
+pub fn largest(a: usize, b: usize) -> usize
+    ensures { λ r. ⌜ r ≡ max a b ⌝ }
+{
+    if a < b { b } else { a }
+}
 
 pub fn get_word(img: &[u8], at: usize) -> usize
     requires { ⌜ at + 1 < length (now img) ⌝ }

@@ -1,7 +1,7 @@
 // Write: the refusals in their order; then EOF grows, the data are poured, and the entry is written anew.
 // It answers for every image and every argument; its outcome is the one of the definition in model.
 ghost use mathlib.Core.Path.{_≡_};
-ghost use Prim.Native.Nat.{_+_, _*_, _≤_, _<_, max};
+ghost use Prim.Native.Nat.{_+_, _*_, _≤_, _<_};
 ghost use lib.ListN.{length};
 ghost use lib.Dec.{ltb};
 ghost use Rattle.model.specs.Bytes.{view, _or_};
@@ -25,12 +25,6 @@ const MAP_BLOCK: usize = 6;
 // "A file has at most 16,777,215 bytes."
 const EOF_MOST: usize = 16777215;
 
-fn largest(a: usize, b: usize) -> usize
-    ensures { λ r. ⌜ r ≡ max a b ⌝ }
-{
-    if a < b { b } else { a }
-}
-
 // $4D: a position past EOF, or an end past what a file may have. The sum is taken only where it cannot wrap.
 fn is_too_far(eof: u32, position: usize, size: usize) -> bool
     ensures { λ r. ⌜ r ≡ (ltb eof position or ltb eofMost (position + size)) ⌝ }
@@ -53,7 +47,7 @@ fn need(img: &[u8], n: usize, place: Place, entry: Entry, position: usize, size:
     let kind = entry.kind;
     let height = opening::height_of(kind);
     let key = model::key_of(kind) as usize;
-    let end = largest(entry.eof as usize, position + size);
+    let end = store::largest(entry.eof as usize, position + size);
     let goal = directory::height_for(end);
     let past = (position + size - 1) / 512 + 1;
     pour::need(img, n, height, key, goal, position / 512, past)
@@ -80,7 +74,7 @@ fn put_data(
     let key = model::key_of(kind) as usize;
     let eof = entry.eof as usize;
     let together = entry.used as usize + free;
-    let end = largest(eof, position + buffer.len());
+    let end = store::largest(eof, position + buffer.len());
     let goal = directory::height_for(end);
     let at = directory::slot_at(place);
     let new_key = growth::grow(img, n, height, key, eof, end);

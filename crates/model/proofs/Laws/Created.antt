@@ -60,7 +60,7 @@ vacant-none v (t ∷ ss) e = go (sort v t) refl e (vacant-none v ss)
     go (file k) f g r = omega (arith, r g)
 
 -- a directory with no inactive slot has at most 4,681 blocks
-full-low : {n : ℕ} {v : Bytes} (S : Sound n v) (d : ℕ) → Seen v d → sort v d ≡ directory → vacant v (kids v d) ≡ none → used v d < 32767
+pub full-low : {n : ℕ} {v : Bytes} (S : Sound n v) (d : ℕ) → Seen v d → sort v d ≡ directory → vacant v (kids v d) ≡ none → used v d < 32767
 full-low {n} {v} S d h e f =
     omega (
       arith,

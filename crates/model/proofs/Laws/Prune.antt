@@ -26,10 +26,10 @@ early e g l s x = when (leb e (firstBelow l s)) 0 (g l s x)
 
 -- A late part cut off.
 module _ {n : ℕ} {w : Bytes} {h q k i : ℕ} (F : Fit n w (suc h) q k) (il : i < 256) (full : pointer w k i ≡ 0 → ⊥) where
-  abbrev bare : Bytes
+  abbrev pub bare : Bytes
   bare = givenAll mapPlace w (blocksIn (nodes w h (q * 256 + i) (pointer w k i)))
 
-  abbrev cut : Bytes
+  abbrev pub cut : Bytes
   cut = putPointer bare k i 0
 
   gone : Freed n w (λ b. count b (blocksIn (nodes w h (q * 256 + i) (pointer w k i)))) bare
@@ -54,7 +54,7 @@ module _ {n : ℕ} {w : Bytes} {h q k i : ℕ} (F : Fit n w (suc h) q k) (il : i
   cut-none : (g : Gauge) → part g cut h q k i ≡ 0
   cut-none g = arm-hole _ cut q k i (pointer-at bare k i 0 (omega arith))
 
-  cut-move : Move n w (suc h) q k cut (suc h) q k
+  pub cut-move : Move n w (suc h) q k cut (suc h) q k
   cut-move =
       let less : (b : ℕ) → has cut (suc h) q k b + has w h (q * 256 + i) (pointer w k i) b ≡ has w (suc h) q k b =
       λ b. omega (arith, cut-none (each (is b)), arm-full (λ r p. has w h r p b) w q k i full, weigh-one (each (is b)) w cut h q k i il (cut-part (each (is b)))) in

@@ -1,8 +1,8 @@
--- `growth::backed_up` meets its contract: the bit is there, or is added. Assumes nothing.
-use Rattle.growth.proofs.Laws.{backed-is, backed-more}
+-- `entries::backed_up` meets its contract: the bit is there, or is added. Assumes nothing.
+use Rattle.entries.proofs.Laws.{backed-is, backed-more}
 use borrow.Author.Needs.{needs}
-use Rattle.growth.proofs.backed_up.Statement.{statement}
-use Rattle.growth.proofs.backed_up.Tie as tie
+use Rattle.entries.proofs.backed_up.Statement.{statement}
+use Rattle.entries.proofs.backed_up.Tie as tie
 
 returns : tie.Need-returns
 returns c = backed-is (c .before .args .access) (c .if1 .taken)
