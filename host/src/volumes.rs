@@ -197,6 +197,15 @@ impl<'a> Builder<'a> {
         }
     }
 
+    /// Which of the first `limit` pointers to set: often the first, then the last, then any.
+    fn pointer_for(&mut self, step: usize, limit: usize) -> usize {
+        match step {
+            0 if !self.random.once_in(3) => 0,
+            1 => limit - 1,
+            _ => self.random.below(limit),
+        }
+    }
+
     /// Makes an index with a few data blocks before `below`; the answer is how many.
     fn index(&mut self, index: usize, below: usize) -> usize {
         block_mut(&mut self.image, index).fill(0);
@@ -204,11 +213,7 @@ impl<'a> Builder<'a> {
         let wanted = if self.random.once_in(4) { 0 } else { self.random.between(1, 6) };
         let mut made = 0;
         for step in 0..wanted {
-            let i = match step {
-                0 if !self.random.once_in(3) => 0,
-                1 => limit - 1,
-                _ => self.random.below(limit),
-            };
+            let i = self.pointer_for(step, limit);
             if pointer(&self.image, index, i) == 0 {
                 let Some(data) = self.take() else { break };
                 set_pointer(&mut self.image, index, i, data);
@@ -224,11 +229,7 @@ impl<'a> Builder<'a> {
         let wanted = self.random.below(4);
         let mut made = 0;
         for step in 0..wanted {
-            let i = match step {
-                0 if !self.random.once_in(3) => 0,
-                1 => limit - 1,
-                _ => self.random.below(limit),
-            };
+            let i = self.pointer_for(step, limit);
             if pointer(&self.image, master, i) == 0 {
                 let Some(index) = self.take() else { break };
                 set_pointer(&mut self.image, master, i, index);
