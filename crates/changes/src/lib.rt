@@ -79,7 +79,7 @@ fn rename(line: &[u8], at: Cursor, img: &mut [u8], page: &mut [u8; PAGE], used: 
     }
     let size = path.count;
     let new_size = name.count;
-    let answer = relabel::rename(img, &room[0..size], &new_room[0..new_size]);
+    let answer = rename::rename(img, &room[0..size], &new_room[0..new_size]);
     replies::say_answer(page, used, answer)
 }
 
@@ -101,7 +101,7 @@ fn set_info(line: &[u8], at: Cursor, img: &mut [u8], page: &mut [u8; PAGE], used
         date: moment.date,
         time: moment.time,
     };
-    let answer = relabel::set_info(img, &room[0..size], access.value, aux.value, stamp);
+    let answer = set_info::set_info(img, &room[0..size], access.value, aux.value, stamp);
     replies::say_answer(page, used, answer)
 }
 

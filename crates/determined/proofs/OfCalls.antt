@@ -16,10 +16,10 @@ use Rattle.calls.proofs.read.Reads as read-reads
 use Rattle.calls.proofs.read.Kinds as read-kinds
 use Rattle.format.proofs.format.Reads as format-reads
 use Rattle.format.proofs.format.Kinds as format-kinds
-use Rattle.relabel.proofs.set_info.Reads as set-info-reads
-use Rattle.relabel.proofs.set_info.Kinds as set-info-kinds
-use Rattle.relabel.proofs.rename.Reads as rename-reads
-use Rattle.relabel.proofs.rename.Kinds as rename-kinds
+use Rattle.set_info.proofs.set_info.Reads as set-info-reads
+use Rattle.set_info.proofs.set_info.Kinds as set-info-kinds
+use Rattle.rename.proofs.rename.Reads as rename-reads
+use Rattle.rename.proofs.rename.Kinds as rename-kinds
 use Rattle.destroy.proofs.destroy.Reads as destroy-reads
 use Rattle.destroy.proofs.destroy.Kinds as destroy-kinds
 use Rattle.create.proofs.create.Reads as create-reads

@@ -4,3 +4,5 @@ pub mod VolumeLaws
 pub mod OpenedLaws
 pub mod EntryLaws
 pub mod CodeLaws
+pub mod IfLaws
+pub mod PlaceLaws

@@ -1,12 +1,13 @@
 -- What the calls share before their own work: the volume, and what a path leads to, with the refusals up to $46 in the order of the table.
 use Prim.Native.Nat.{ℕ}
-use mathlib.Core.Bool.{true, false}
+use mathlib.Core.Bool.{Bool, true, false}
 use lib.Dec.{eqb}
 use Rattle.model.specs.Bytes.{Bytes, _and_}
 use Rattle.model.specs.Names.{properPath}
 use Rattle.model.specs.Directory.{at, volume, Target, noVolume, noDirectory, missing, there}
 use Rattle.model.specs.Sound.{wholeBlocks, prodos, sound}
 use Rattle.model.specs.Calls.{total, target}
+use Rattle.model.specs.declared.Refusal.{Refusal}
 use Rattle.model.specs.declared.Refusal.the-variants.{NotProdos, NotSound, BadPath, NoVolume, NoDirectory, NotFound}
 use Rattle.directory.specs.Slots.{placeOf, entryOf}
 use Rattle.directory.specs.Lookup.{homeOf}
@@ -37,3 +38,12 @@ openedOn (volumes.Sound n) v p k = elim (properPath p k) [ true ↦ openedAt n v
 -- the path p of k bytes on an image of len bytes
 abbrev pub openedBy : ℕ → Bytes → Bytes → ℕ → Opened
 openedBy len v p k = openedOn (volumeIn len v) v p k
+
+-- what a path opens on a volume: behind $40, the reason r where the other arguments are not fit
+unfoldable pub openedOnIf : Bool → Refusal → Volume → Bytes → Bytes → ℕ → Opened
+openedOnIf fit r (volumes.Refused why) v p k = opened.Refused why
+openedOnIf fit r (volumes.Sound n) v p k =
+    elim (properPath p k) [ true ↦ elim fit [ true ↦ openedAt n v (target v p k) | false ↦ opened.Refused r ] | false ↦ opened.Refused BadPath ]
+
+abbrev pub openedIf : Bool → Refusal → ℕ → Bytes → Bytes → ℕ → Opened
+openedIf fit r len v p k = openedOnIf fit r (volumeIn len v) v p k

@@ -7,7 +7,7 @@ ghost use Rattle.model.specs.Bytes.{view};
 ghost use Rattle.model.specs.Names.{properPath};
 ghost use Rattle.model.specs.Calls.{target};
 ghost use Rattle.model.specs.Sound.{sound};
-ghost use Rattle.opening.specs.Opened.{volumeIn, openedAt, openedBy};
+ghost use Rattle.opening.specs.Opened.{volumeIn, openedAt, openedBy, openedIf};
 ghost use Rattle.opening.specs.Sorts.{heightOf};
 use directory::Home;
 use directory::Looked;
@@ -81,6 +81,24 @@ pub fn opened_by(img: &[u8], path: &[u8]) -> Opened
             } else {
                 Opened::Refused(Refusal::BadPath)
             }
+        }
+    }
+}
+
+// The rows up to $46, and one more behind $40: where `fit` fails, the call is refused for the reason given.
+pub fn opened_if(img: &[u8], path: &[u8], fit: bool, reason: Refusal) -> Opened
+    ensures { λ r. ⌜ r ≡ openedIf fit reason (length (now (img .entry))) (view (now (img .entry))) (view (now (path .entry))) (length (now (path .entry))) ⌝ }
+{
+    match volume_in(img) {
+        Volume::Refused(why) => Opened::Refused(why),
+        Volume::Sound(n) => {
+            if !names::is_proper_path(path) {
+                return Opened::Refused(Refusal::BadPath);
+            }
+            if !fit {
+                return Opened::Refused(reason);
+            }
+            opened_at(img, n, path)
         }
     }
 }

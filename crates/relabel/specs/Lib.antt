@@ -1,2 +1,0 @@
--- What the contracts of relabel cite.
-pub mod Relabeled

@@ -1,0 +1,2 @@
+-- What the contracts of rename cite.
+pub mod Renamed
