@@ -95,20 +95,23 @@ module _ (l : List ℕ) (p : Bytes) (k access aux : ℕ) (t : Stamp) where
   abbrev call-way : Opened
   call-way = openedIf (eqb (access / 4 % 8) 0) BadType (length l) (view l) p k
 
-  pub set-does-refused : (r : Refusal) → call-way ≡ opened.Refused r
+  pub set-opened : {o : Opened} (n : ℕ) (h : Home) (s : Place) (x : Entry) → o ≡ call-way → o ≡ opened.Entry n h s x → Sets (length l) (view l) p k access aux t s
+  set-opened n h s x e q = set-entry (length l) (view l) p k access aux t n h s x (sym e ∙ q)
+
+  pub set-does-refused : {o : Opened} (r : Refusal) → o ≡ call-way → o ≡ opened.Refused r
       → Does (setInfo (length l) (view l) p k access aux t) (length l) (answer.Refused r) l
   unfolding setInfo
-  set-does-refused r e = does-refused _ l _ r (set-number (length l) (view l) p k access aux t (opened.Refused r) e)
+  set-does-refused r e g = does-refused _ l _ r (set-number (length l) (view l) p k access aux t (opened.Refused r) (sym e ∙ g))
 
-  pub set-does-volume : (n : ℕ) → call-way ≡ opened.Volume n
+  pub set-does-volume : {o : Opened} (n : ℕ) → o ≡ call-way → o ≡ opened.Volume n
       → Does (setInfo (length l) (view l) p k access aux t) (length l) (answer.Refused Locked) l
   unfolding setInfo
-  set-does-volume n e = does-refused _ l _ Locked (set-volume (length l) (view l) p k access aux t n e)
+  set-does-volume n e g = does-refused _ l _ Locked (set-volume (length l) (view l) p k access aux t n (sym e ∙ g))
 
-  pub set-does : (n : ℕ) (h : Home) (s : Place) (x : Entry) (l′ : List ℕ) → call-way ≡ opened.Entry n h s x → length l′ ≡ length l
+  pub set-does : {o : Opened} (n : ℕ) (h : Home) (s : Place) (x : Entry) (l′ : List ℕ) → o ≡ call-way → o ≡ opened.Entry n h s x → length l′ ≡ length l
       → view l′ ≡ infoAt (view l) (at (placeNumber s)) access aux t
       → Does (setInfo (length l) (view l) p k access aux t) (length l) answer.Done l′
   unfolding setInfo
-  set-does n h s x l′ e m w =
-      let g = set-entry (length l) (view l) p k access aux t n h s x e in
+  set-does n h s x l′ e q m w =
+      let g = set-opened n h s x e q in
       does-done _ (length l) (view l) _ l′ (g .accepted) m (w ∙ g .stored)

@@ -2,7 +2,7 @@
 use mathlib.Core.Path.{sym, ap, _∙_}
 use lib.ListN.{length}
 use Rattle.model.specs.Bytes.{view}
-use Rattle.set_info.proofs.InfoLaws.{infoAt, set-entry, set-does-refused, set-does-volume, set-does}
+use Rattle.set_info.proofs.InfoLaws.{infoAt, set-opened, set-does-refused, set-does-volume, set-does}
 use borrow.Author.Needs.{needs}
 use Rattle.set_info.proofs.set_info.Statement.{statement}
 use Rattle.set_info.proofs.set_info.Tie as tie
@@ -21,7 +21,7 @@ returns c =
     let a = c .before .before .before .before .before .before .before .args in
     let l = a .img .now in
     let p = a .path .now in
-    set-does-refused l (view p) (length p) (a .access) (a .aux) (a .modified) _ (sym (c .before .before .before .opened-if .ensures) ∙ c .before .why .given .1)
+    set-does-refused l (view p) (length p) (a .access) (a .aux) (a .modified) _ (c .before .before .before .opened-if .ensures) (c .before .why .given .1)
 
 enum-told : tie.Need-enum-told
 enum-told c = search needs
@@ -34,7 +34,7 @@ returns-2 c =
     let a = c .before .before .before .before .before .before .args in
     let l = a .img .now in
     let p = a .path .now in
-    set-does-volume l (view p) (length p) (a .access) (a .aux) (a .modified) _ (sym (c .before .before .opened-if .ensures) ∙ c .enum-told .given .1)
+    set-does-volume l (view p) (length p) (a .access) (a .aux) (a .modified) _ (c .before .before .opened-if .ensures) (c .enum-told .given .1)
 
 enum-known-place : tie.Need-enum-known-place
 enum-known-place c = search needs
@@ -44,14 +44,14 @@ slot-at-requires c κs =
     let a = c .before .before .before .before .before .before .before .args in
     let l = a .img .now in
     let p = a .path .now in
-    set-entry (length l) (view l) (view p) (length p) (a .access) (a .aux) (a .modified) _ _ _ _ (sym (c .before .before .before .opened-if .ensures) ∙ c .before .place .given .1) .counted
+    set-opened l (view p) (length p) (a .access) (a .aux) (a .modified) _ _ _ _ (c .before .before .before .opened-if .ensures) (c .before .place .given .1) .counted
 
 put-info-requires : tie.Need-put-info-requires
 put-info-requires c κs =
     let a = c .before .before .before .before .before .before .before .before .before .args in
     let l = a .img .now in
     let p = a .path .now in
-    rw (c .before .slot-at .ensures) (set-entry (length l) (view l) (view p) (length p) (a .access) (a .aux) (a .modified) _ _ _ _ (sym (c .before .before .before .before .before .opened-if .ensures) ∙ c .before .before .before .place .given .1) .fits)
+    rw (c .before .slot-at .ensures) (set-opened l (view p) (length p) (a .access) (a .aux) (a .modified) _ _ _ _ (c .before .before .before .before .before .opened-if .ensures) (c .before .before .before .place .given .1) .fits)
 
 same-length-3 : tie.Need-same-length-3
 same-length-3 c = search needs
@@ -61,7 +61,7 @@ returns-3 c =
     let a = c .before .before .before .before .before .before .before .before .before .before .before .before .args in
     let l = a .img .now in
     let p = a .path .now in
-    set-does l (view p) (length p) (a .access) (a .aux) (a .modified) _ _ _ _ _ (sym (c .before .before .before .before .before .before .before .before .opened-if .ensures) ∙ c .before .before .before .before .before .before .place .given .1) (c .before .before .put-info .kept .0)
+    set-does l (view p) (length p) (a .access) (a .aux) (a .modified) _ _ _ _ _ (c .before .before .before .before .before .before .before .before .opened-if .ensures) (c .before .before .before .before .before .before .place .given .1) (c .before .before .put-info .kept .0)
     (c .before .before .put-info .ensures ∙ ap (λ s. infoAt (view l) s (a .access) (a .aux) (a .modified)) (c .before .before .before .before .slot-at .ensures))
 
 pub set-info-spec : {M : Type 1} → statement M
