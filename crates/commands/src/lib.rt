@@ -96,7 +96,7 @@ fn space(line: &[u8], at: Cursor, img: &[u8], page: &mut [u8; PAGE], used: usize
     if !script::is_done(line, at) {
         return replies::say_bad(used);
     }
-    replies::say_space(page, used, calls::space(img))
+    replies::say_space(page, used, info::space(img))
 }
 
 fn get_info(line: &[u8], at: Cursor, img: &[u8], page: &mut [u8; PAGE], used: usize) -> Said {
@@ -107,7 +107,7 @@ fn get_info(line: &[u8], at: Cursor, img: &[u8], page: &mut [u8; PAGE], used: us
         return replies::say_bad(used);
     }
     let size = path.count;
-    replies::say_info(page, used, calls::get_info(img, &room[0..size]))
+    replies::say_info(page, used, info::get_info(img, &room[0..size]))
 }
 
 // The call read, with a buffer of its own.
@@ -121,7 +121,7 @@ fn read_into(
 ) -> Said {
     let size = buffer.len();
     fill_run(buffer, 0, size, BEFORE);
-    let answer = calls::read(img, path, position, buffer);
+    let answer = read::read(img, path, position, buffer);
     replies::say_read(page, used, answer, buffer)
 }
 

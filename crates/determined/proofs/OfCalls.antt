@@ -8,12 +8,12 @@ use Rattle.model.specs.Answers.{Does}
 use Rattle.model.specs.declared.Answer.{Answer}
 use Rattle.determined.proofs.Determined.{Determined, Nothing-seen, none-seen, same-list}
 use Rattle.determined.proofs.Numbers.{answer-known, transfer-known, info-known, space-known}
-use Rattle.calls.proofs.space.Reads as space-reads
-use Rattle.calls.proofs.space.Kinds as space-kinds
-use Rattle.calls.proofs.get_info.Reads as get-info-reads
-use Rattle.calls.proofs.get_info.Kinds as get-info-kinds
-use Rattle.calls.proofs.read.Reads as read-reads
-use Rattle.calls.proofs.read.Kinds as read-kinds
+use Rattle.info.proofs.space.Reads as space-reads
+use Rattle.info.proofs.space.Kinds as space-kinds
+use Rattle.info.proofs.get_info.Reads as get-info-reads
+use Rattle.info.proofs.get_info.Kinds as get-info-kinds
+use Rattle.read.proofs.read.Reads as read-reads
+use Rattle.read.proofs.read.Kinds as read-kinds
 use Rattle.format.proofs.format.Reads as format-reads
 use Rattle.format.proofs.format.Kinds as format-kinds
 use Rattle.set_info.proofs.set_info.Reads as set-info-reads

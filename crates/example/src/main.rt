@@ -7,7 +7,7 @@ fn keep_a_log(img: &mut [u8], back: &mut [u8]) {
     format::format(img, b"SITE7", today);
     create::create(img, b"/SITE7/LOG", 1, 4, 0, today);
     write::write(img, b"/SITE7/LOG", 0, b"forward 9900 W\n", today);
-    calls::read(img, b"/SITE7/LOG", 0, back);
+    read::read(img, b"/SITE7/LOG", 0, back);
 }
 
 fn main() {

@@ -1,4 +1,4 @@
--- What the branches of the code answer: the rows of read from $4B on, and what is told of the volume.
+-- What the branches of the code answer: the rows of read from $4B on.
 use Prim.Native.Nat.{ℕ, _-_, _/_, _%_, _≤_, _<_}
 use mathlib.Core.Path.{_≡_, refl, sym, ap, _∙_}
 use mathlib.Core.List.{List, [], _∷_}
@@ -7,11 +7,7 @@ use lib.Dec.{leb, ltb, eqb}
 use lib.ListN.{length}
 use native.Mathlib.Omega.{arith}
 use borrow.Author.Tests.{eq-eqb, ne-eqb, lt-ltb, le-ltb, le-leb, leb-true, eqb-true}
-use Rattle.model.specs.Bytes.{Bytes, view, word, paste, from, _and_}
-use Rattle.model.specs.Map.{room}
-use Rattle.model.specs.Info.{volumeInfo, stampAt}
-use Rattle.model.specs.declared.Info.{Info}
-use Rattle.model.specs.Directory.{at, mapBlock, mapPlace, ftype, eof}
+use Rattle.model.specs.Bytes.{Bytes, view, paste, from, _and_}
 use Rattle.model.specs.File.{fileByte}
 use Rattle.model.specs.Kinds.{keyOf}
 use Rattle.model.specs.Refusals.{refusalNumber, Row, row, first, settle}
@@ -24,7 +20,7 @@ use Rattle.model.specs.declared.Entry.{Entry}
 use Rattle.model.proofs.RefusalLaws.{settle-refused, settle-accepted, number-refuses, first-applies, first-passes}
 use Rattle.claims.proofs.TestLaws.{and-true, and-false}
 use Rattle.opening.specs.Sorts.{isFolder, heightOf}
-use Rattle.calls.specs.Reading.{entryReadNumber, entryCount, entryRead}
+use Rattle.read.specs.Reading.{entryReadNumber, entryCount, entryRead}
 
 allowed : (a : ℕ) → (a % 2 ≡ 0 → ⊥) → not (allows a readBit) ≡ false
 unfolding allows
@@ -94,18 +90,3 @@ module _ (v : Bytes) (x : Entry) (pos : ℕ) (l : List ℕ) where
         size = n;
         bytes = b ∙ ap (λ k. paste (view l) 0 k g) c ∙ sym (ap (λ f. f .buffer) (s .0));
       }
-
--- what get info tells of the volume
-pub volume-told : (n : ℕ) (v : Bytes) (a d t r : ℕ) → a ≡ v 1058 → d ≡ word v 1052 → t ≡ word v 1054 → r ≡ room mapPlace v n → mapBlock v ≡ mapPlace
-    → _≡_ {A = Info} (record {
-      kind = 0xF;
-      ftype = 0x0F;
-      access = a;
-      aux = n;
-      used = n - r;
-      eof = 2048;
-      created = record { date = d; time = t };
-      modified = record { date = d; time = t };
-    }) (volumeInfo n v)
-unfolding volumeInfo ftype eof stampAt at
-volume-told n v a d t r ea ed et er m = rw (ea, ed, et, er, m) refl

@@ -31,7 +31,7 @@ use Rattle.opening.specs.declared.Opened.the-variants as opened
 use Rattle.opening.proofs.VolumeLaws.{Fits}
 use Rattle.opening.proofs.EntryLaws.{Named, target-named, height-sort, key-sort, height-small, kind-is, folder-is, eof-is, access-is, file-is}
 use Rattle.opening.proofs.OpenedLaws.{openedOr, opened-first, Seen, refused, on-volume, on-entry, seen}
-use Rattle.calls.specs.Reading.{Readable, entryReadNumber, entryCount, entryRead}
+use Rattle.read.specs.Reading.{Readable, entryReadNumber, entryCount, entryRead}
 
 -- the rows of read from $4B on, at a place
 rowsAt : Bytes → ℕ → ℕ → ℕ → List Row

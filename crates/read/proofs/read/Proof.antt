@@ -1,11 +1,11 @@
--- `calls::read` meets its contract, by what the path leads to. Assumes nothing.
+-- `read::read` meets its contract, by what the path leads to. Assumes nothing.
 use mathlib.Core.Path.{sym, _∙_}
 use lib.ListN.{length}
 use borrow.Author.Needs.{needs}
 use Rattle.model.specs.Bytes.{view}
-use Rattle.calls.proofs.ReadLaws.{read-refused, read-volume, read-entry}
-use Rattle.calls.proofs.read.Statement.{statement}
-use Rattle.calls.proofs.read.Tie as tie
+use Rattle.read.proofs.ReadLaws.{read-refused, read-volume, read-entry}
+use Rattle.read.proofs.read.Statement.{statement}
+use Rattle.read.proofs.read.Tie as tie
 
 opened-by-requires : tie.Need-opened-by-requires
 opened-by-requires c κs = search needs

@@ -1,8 +1,8 @@
--- `calls::entry_info` meets its contract: the kind as its number, all else as it stands in the entry. Assumes nothing.
+-- `info::entry_info` meets its contract: the kind as its number, all else as it stands in the entry. Assumes nothing.
 use mathlib.Core.Path.{ap}
 use borrow.Author.Needs.{needs}
-use Rattle.calls.proofs.entry_info.Statement.{statement}
-use Rattle.calls.proofs.entry_info.Tie as tie
+use Rattle.info.proofs.entry_info.Statement.{statement}
+use Rattle.info.proofs.entry_info.Tie as tie
 
 kind-number-requires : tie.Need-kind-number-requires
 kind-number-requires c κs = search needs

@@ -1,11 +1,11 @@
--- `calls::get_info` meets its contract, by what the path leads to. Assumes nothing.
+-- `info::get_info` meets its contract, by what the path leads to. Assumes nothing.
 use mathlib.Core.Path.{sym, _∙_}
 use lib.ListN.{length}
 use borrow.Author.Needs.{needs}
 use Rattle.model.specs.Bytes.{view}
-use Rattle.calls.proofs.TellLaws.{info-refused, info-volume, info-entry}
-use Rattle.calls.proofs.get_info.Statement.{statement}
-use Rattle.calls.proofs.get_info.Tie as tie
+use Rattle.info.proofs.TellLaws.{info-refused, info-volume, info-entry}
+use Rattle.info.proofs.get_info.Statement.{statement}
+use Rattle.info.proofs.get_info.Tie as tie
 
 opened-by-requires : tie.Need-opened-by-requires
 opened-by-requires c κs = search needs

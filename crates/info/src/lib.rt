@@ -1,24 +1,17 @@
-// The calls that read: get info, space and read. Each answers for every image and every argument; a refusal has the number of document 01
-// and changes no byte. Its outcome is the one of the definition in model.
+// Get info and space: the calls that only tell. Each answers for every image and every argument; a refusal has the number of document 01.
 ghost use mathlib.Core.Path.{_≡_};
-ghost use mathlib.Core.Bool.{true, false};
-ghost use Prim.Native.Nat.{ℕ, _+_, _-_, _*_, _≤_, _<_};
+ghost use Prim.Native.Nat.{_+_, _*_, _≤_, _<_};
 ghost use lib.ListN.{length};
 ghost use Rattle.model.specs.Bytes.{view, word};
 ghost use Rattle.model.specs.Directory.{mapBlock, mapPlace};
 ghost use Rattle.model.specs.Info.{volumeInfo, getInfo, space as spaceCall};
-ghost use Rattle.model.specs.Read.{read as readCall};
-ghost use Rattle.model.specs.Answers.{Reads, Tells, Measures};
-ghost use Rattle.calls.specs.Told.{told};
-ghost use Rattle.opening.specs.Sorts.{isFolder};
-ghost use Rattle.calls.specs.Reading.{Readable, entryRead};
+ghost use Rattle.model.specs.Answers.{Tells, Measures};
+ghost use Rattle.info.specs.Told.{told};
 use model::Entry;
 use model::Info;
 use model::InfoAnswer;
-use model::Refusal;
 use model::SpaceAnswer;
 use model::Stamp;
-use model::Transfer;
 use opening::Opened;
 use opening::Volume;
 
@@ -96,52 +89,5 @@ pub fn get_info(img: &[u8], path: &[u8]) -> InfoAnswer
         Opened::Refused(why) => InfoAnswer::Refused(why),
         Opened::Volume(n) => InfoAnswer::Told(volume_info(img, n)),
         Opened::Entry(_, _, _, entry) => InfoAnswer::Told(entry_info(entry)),
-    }
-}
-
-// $4B, $4E, $4D and $4C; then the bytes of the file from a position on, as many as the buffer takes.
-fn read_file(img: &[u8], n: usize, entry: Entry, position: usize, buffer: &mut [u8]) -> Transfer
-    requires { ⌜ (n ≤ 65535) × (length (now img) ≡ n * 512) × (isFolder (entry .kind) ≡ false → Readable n (view (now img)) entry) ⌝ }
-    ensures { λ r. ⌜ Reads (entryRead (view (now (img .entry))) entry position (view (now (buffer .entry))) (length (now (buffer .entry)))) (length (now (buffer .entry))) r (now (buffer .exit)) ⌝ }
-{
-    let kind = entry.kind;
-    let height = opening::height_of(kind);
-    if height == 3 {
-        return Transfer::Refused(Refusal::BadKind);
-    }
-    if entry.access % 2 == 0 {
-        return Transfer::Refused(Refusal::Locked);
-    }
-    let eof = entry.eof as usize;
-    if eof < position {
-        return Transfer::Refused(Refusal::BadPosition);
-    }
-    let size = buffer.len();
-    if 1 <= size {
-        if position == eof {
-            return Transfer::Refused(Refusal::EndOfFile);
-        }
-    }
-    let count = store::least(size, eof - position);
-    file::read_bytes(
-        img,
-        n,
-        height,
-        model::key_of(kind) as usize,
-        position,
-        buffer,
-        count,
-    );
-    Transfer::Moved(count)
-}
-
-// Read: into the buffer, from a position of the file that a path names.
-pub fn read(img: &[u8], path: &[u8], position: usize, buffer: &mut [u8]) -> Transfer
-    ensures { λ r. ⌜ Reads (readCall (length (now (img .entry))) (view (now (img .entry))) (view (now (path .entry))) (length (now (path .entry))) position (view (now (buffer .entry))) (length (now (buffer .entry)))) (length (now (buffer .entry))) r (now (buffer .exit)) ⌝ }
-{
-    match opening::opened_by(img, path) {
-        Opened::Refused(why) => Transfer::Refused(why),
-        Opened::Volume(_) => Transfer::Refused(Refusal::BadKind),
-        Opened::Entry(n, _, _, entry) => read_file(img, n, entry, position, buffer),
     }
 }

@@ -1,4 +1,4 @@
--- `calls::space` meets its contract: a sound volume's blocks fit 16 bits, and its map is in place. Assumes nothing.
+-- `info::space` meets its contract: a sound volume's blocks fit 16 bits, and its map is in place. Assumes nothing.
 use mathlib.Core.Path.{sym, _∙_}
 use lib.ListN.{length}
 use native.Mathlib.Omega.{arith}
@@ -6,9 +6,9 @@ use borrow.Author.Needs.{needs}
 use Rattle.model.specs.Bytes.{view}
 use Rattle.model.specs.Map.{mapBlocks}
 use Rattle.opening.proofs.VolumeLaws.{volume-sound}
-use Rattle.calls.proofs.TellLaws.{space-refused, space-told}
-use Rattle.calls.proofs.space.Statement.{statement}
-use Rattle.calls.proofs.space.Tie as tie
+use Rattle.info.proofs.TellLaws.{space-refused, space-told}
+use Rattle.info.proofs.space.Statement.{statement}
+use Rattle.info.proofs.space.Tie as tie
 
 volume-in-requires : tie.Need-volume-in-requires
 volume-in-requires c κs = search needs

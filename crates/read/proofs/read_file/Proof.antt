@@ -1,4 +1,4 @@
--- `calls::read_file` meets its contract: each refusal is one row of the table, in its order; then the file's bytes. Assumes nothing.
+-- `read::read_file` meets its contract: each refusal is one row of the table, in its order; then the file's bytes. Assumes nothing.
 use mathlib.Core.Path.{sym, ap, _∙_}
 use mathlib.Core.Logic.{⊎-elim}
 use lib.ListN.{length}
@@ -8,11 +8,11 @@ use Rattle.model.specs.Bytes.{view, paste, from}
 use Rattle.model.specs.File.{fileByte}
 use Rattle.model.specs.declared.Refusal.the-variants.{BadKind, Locked, BadPosition, EndOfFile}
 use Rattle.opening.specs.Sorts.{heightOf}
-use Rattle.calls.proofs.ReadLaws.{folder-number}
+use Rattle.read.proofs.ReadLaws.{folder-number}
 use Rattle.opening.proofs.EntryLaws.{folder, no-folder}
-use Rattle.calls.proofs.CodeLaws.{number-locked, number-far, number-end, number-none, entry-no, entry-moved}
-use Rattle.calls.proofs.read_file.Statement.{statement}
-use Rattle.calls.proofs.read_file.Tie as tie
+use Rattle.read.proofs.CodeLaws.{number-locked, number-far, number-end, number-none, entry-no, entry-moved}
+use Rattle.read.proofs.read_file.Statement.{statement}
+use Rattle.read.proofs.read_file.Tie as tie
 
 height-of-requires : tie.Need-height-of-requires
 height-of-requires c κs = search needs

@@ -1,11 +1,11 @@
--- `calls::volume_info` meets its contract: fields of the volume's header, and the blocks that are not free. Assumes nothing.
+-- `info::volume_info` meets its contract: fields of the volume's header, and the blocks that are not free. Assumes nothing.
 use mathlib.Core.Path.{refl}
 use borrow.Author.Needs.{needs}
 use Rattle.model.specs.Bytes.{view}
 use Rattle.model.specs.Map.{mapBlocks}
-use Rattle.calls.proofs.CodeLaws.{volume-told}
-use Rattle.calls.proofs.volume_info.Statement.{statement}
-use Rattle.calls.proofs.volume_info.Tie as tie
+use Rattle.info.proofs.TellLaws.{volume-told}
+use Rattle.info.proofs.volume_info.Statement.{statement}
+use Rattle.info.proofs.volume_info.Tie as tie
 
 add-half : tie.Need-add-half
 add-half c = search needs

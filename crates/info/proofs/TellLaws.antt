@@ -1,16 +1,16 @@
 -- What space and get info answer, by what the image and the path are.
-use Prim.Native.Nat.{ℕ, _+_, _/_}
+use Prim.Native.Nat.{ℕ, _+_, _-_, _/_}
 use mathlib.Core.Path.{_≡_, refl, sym, ap, _∙_}
 use mathlib.Core.List.{[]}
 use native.Mathlib.Omega.{arith}
 use borrow.Author.Tests.{ne-eqb}
 use Rattle.model.specs.Bytes.{Bytes, word}
 use Rattle.model.specs.Map.{room}
-use Rattle.model.specs.Directory.{at, volume, volumeLength, mapBlock, mapPlace, access, there}
+use Rattle.model.specs.Directory.{at, volume, volumeLength, mapBlock, mapPlace, ftype, eof, access, there}
 use Rattle.directory.specs.Slots.{placeOf, entryOf, entryWith}
 use Rattle.directory.specs.Lookup.{homeOf}
 use Rattle.directory.specs.declared.Home.{Home}
-use Rattle.calls.specs.Told.{told}
+use Rattle.info.specs.Told.{told}
 use Rattle.model.specs.Refusals.{refusalNumber, first, settle}
 use Rattle.model.specs.Calls.{total, target, spot}
 use Rattle.model.specs.Info.{stampAt, noSpace, space, spaceNumber, noInfo, info, entryInfo, volumeInfo, getInfo, getInfoNumber}
@@ -110,3 +110,18 @@ info-entry len v p k n g s x e = go (openedBy len v p k) refl e (seen len v p k)
         let m : entryOf v (at y) ≡ x = cc in
         rw (← m) (told-at len v p k d y (opened.Entry (total len) (homeOf v d) (placeOf y) (entryOf v (at y))) (told (entryOf v (at y))) q refl t
         (entry-told (total len) v d y (target-named (total len) v p k d y (f .sane) t) off))
+
+-- what get info tells of the volume
+pub volume-told : (n : ℕ) (v : Bytes) (a d t r : ℕ) → a ≡ v 1058 → d ≡ word v 1052 → t ≡ word v 1054 → r ≡ room mapPlace v n → mapBlock v ≡ mapPlace
+    → _≡_ {A = Info} (record {
+      kind = 0xF;
+      ftype = 0x0F;
+      access = a;
+      aux = n;
+      used = n - r;
+      eof = 2048;
+      created = record { date = d; time = t };
+      modified = record { date = d; time = t };
+    }) (volumeInfo n v)
+unfolding volumeInfo ftype eof stampAt at
+volume-told n v a d t r ea ed et er m = rw (ea, ed, et, er, m) refl

@@ -1,0 +1,2 @@
+-- What the contracts of info cite: what is told of an entry.
+pub mod Told

@@ -1,0 +1,2 @@
+-- What the contracts of read cite: reading by an entry.
+pub mod Reading
