@@ -42,7 +42,7 @@ fn format(
     let size = values[0];
     let stamp = stamp_of(&values, 1);
     let answer = format::format(img, &room[0..size], stamp);
-    commands::said(replies::say_answer(page, ink, answer))
+    commands::good(replies::say_answer(page, ink, answer))
 }
 
 fn create(
@@ -71,7 +71,7 @@ fn create(
         values[3] as u16,
         stamp,
     );
-    commands::said(replies::say_answer(page, ink, answer))
+    commands::good(replies::say_answer(page, ink, answer))
 }
 
 fn destroy(
@@ -92,7 +92,7 @@ fn destroy(
     }
     let size = values[0];
     let answer = destroy::destroy(img, &room[0..size]);
-    commands::said(replies::say_answer(page, ink, answer))
+    commands::good(replies::say_answer(page, ink, answer))
 }
 
 fn rename(
@@ -115,7 +115,7 @@ fn rename(
     let start = script::TEXT;
     let end = start + values[1];
     let answer = relabel::rename(img, &room[0..size], &room[start..end]);
-    commands::said(replies::say_answer(page, ink, answer))
+    commands::good(replies::say_answer(page, ink, answer))
 }
 
 fn set_info(
@@ -143,7 +143,7 @@ fn set_info(
         values[2] as u16,
         stamp,
     );
-    commands::said(replies::say_answer(page, ink, answer))
+    commands::good(replies::say_answer(page, ink, answer))
 }
 
 fn set_eof(
@@ -165,7 +165,7 @@ fn set_eof(
     let size = values[0];
     let stamp = stamp_of(&values, 2);
     let answer = resize::set_eof(img, &room[0..size], values[1], stamp);
-    commands::said(replies::say_answer(page, ink, answer))
+    commands::good(replies::say_answer(page, ink, answer))
 }
 
 fn write(
@@ -188,7 +188,7 @@ fn write(
     let count = values[4];
     let stamp = stamp_of(&values, 2);
     let answer = write::write(img, &room[0..size], values[1], &buffer[0..count], stamp);
-    commands::said(replies::say_transfer(page, ink, answer))
+    commands::good(replies::say_transfer(page, ink, answer))
 }
 
 // The call write, with equal bytes.
@@ -216,7 +216,7 @@ fn fill(
     let stamp = stamp_of(&values, 2);
     commands::fill_run(buffer, 0, count, values[5] as u8);
     let answer = write::write(img, &room[0..size], values[1], &buffer[0..count], stamp);
-    commands::said(replies::say_transfer(page, ink, answer))
+    commands::good(replies::say_transfer(page, ink, answer))
 }
 
 // The calls on what a file holds.

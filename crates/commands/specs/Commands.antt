@@ -96,13 +96,11 @@ readDoes c =
       | false ↦ badLeft c f
     ])
 
--- the same for a path of k bytes and a buffer of its own: its answer, the buffer of size bytes and the page, which was s
-pub record ReadsInto (long : ℕ) (v p : Bytes) (k position size : ℕ) (s : Sheet) (r : Said) (buffer page : List ℕ) : Type 0 where
+-- The same with a buffer of its own, where read has the outcome o: its answer, the buffer of size bytes and the page, which was s.
+pub record ReadsInto (o : Outcome Filled) (size : ℕ) (s : Sheet) (r : Said) (b p : List ℕ) : Type 0 where
   pub good : r .good ≡ true
-  pub buffer : view buffer ≡ read long v p k position (equals size 0xA5) size .parts .buffer
-  pub page :
-      let o = read long v p k position (equals size 0xA5) size in
-      Prints (reply (o .number) (readLine (o .parts .moved) (o .parts .buffer) size)) s (sheet (r .ink) page)
+  pub buffer : view b ≡ o .parts .buffer
+  pub page : Prints (reply (o .number) (readLine (o .parts .moved) (o .parts .buffer) size)) s (sheet (r .ink) p)
 
 -- "how many blocks of its directory are read until it is found, 1 for one in the key block": from a block on, at most k more than x;
 -- most is the number of blocks

@@ -51,8 +51,8 @@ abbrev pub firstText : Fields → Bytes
 firstText f = cut (f .room) 0 (f .values 0)
 
 -- A command that had the page s left this: its answer, the image, the buffer and the page.
-pub record Leaves (o : Left) (s : Sheet) (r : Said) (img buffer page : List ℕ) : Type 0 where
+pub record Leaves (o : Left) (s : Sheet) (r : Said) (i b p : List ℕ) : Type 0 where
   pub good : r .good ≡ o .good
-  pub image : view img ≡ o .image
-  pub buffer : view buffer ≡ o .buffer
-  pub page : Prints (o .text) s (sheet (r .ink) page)
+  pub image : view i ≡ o .image
+  pub buffer : view b ≡ o .buffer
+  pub page : Prints (o .text) s (sheet (r .ink) p)

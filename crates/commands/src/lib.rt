@@ -6,11 +6,12 @@ ghost use mathlib.Core.List.{[], _∷_};
 ghost use Prim.Native.Nat.{_+_, _≤_};
 ghost use lib.ListN.{length};
 ghost use Rattle.model.specs.Bytes.{view, paste};
+ghost use Rattle.model.specs.Read.{read as readCall};
 ghost use Rattle.ink.specs.Ink.{sheet, Prints};
 ghost use Rattle.opening.specs.Opened.{openedBy};
 ghost use Rattle.replies.specs.Lines.{okLine};
 ghost use Rattle.commands.specs.Scenes.{scene, Leaves};
-ghost use Rattle.commands.specs.Commands.{same, setDoes, setRunDoes, digestDoes, blockDoes, spaceDoes, getInfoDoes, ReadsInto, readDoes, blocksRead, placeForms, foundLine, findDoes, looks, runs};
+ghost use Rattle.commands.specs.Commands.{same, equals, setDoes, setRunDoes, digestDoes, blockDoes, spaceDoes, getInfoDoes, ReadsInto, readDoes, blocksRead, placeForms, foundLine, findDoes, looks, runs};
 use directory::Home;
 use ink::Ink;
 use model::Place;
@@ -29,7 +30,7 @@ pub struct Said {
     pub good: bool,
 }
 
-pub fn said(ink: Ink) -> Said
+pub fn good(ink: Ink) -> Said
     ensures { λ r. ⌜ r ≡ record { ink = ink; good = true } ⌝ }
 {
     Said { ink, good: true }
@@ -68,7 +69,7 @@ fn set(line: &[u8], at: usize, img: &mut [u8], buffer: &mut [u8], page: &mut [u8
         return bad(ink);
     }
     store::copy_run(img, address, buffer, 0, count);
-    said(replies::say_ok(page, ink, b"", &[]))
+    good(replies::say_ok(page, ink, b"", &[]))
 }
 
 fn set_run(
@@ -93,7 +94,7 @@ fn set_run(
         return bad(ink);
     }
     fill_run(img, address, count, values[2] as u8);
-    said(replies::say_ok(page, ink, b"", &[]))
+    good(replies::say_ok(page, ink, b"", &[]))
 }
 
 fn digest(line: &[u8], at: usize, img: &[u8], buffer: &mut [u8], page: &mut [u8], ink: Ink) -> Said
@@ -105,7 +106,7 @@ fn digest(line: &[u8], at: usize, img: &[u8], buffer: &mut [u8], page: &mut [u8]
     if !script::read_fields(line, at, b"", &mut values, &mut room, buffer) {
         return bad(ink);
     }
-    said(replies::say_digest(page, ink, img))
+    good(replies::say_digest(page, ink, img))
 }
 
 fn block(line: &[u8], at: usize, img: &[u8], buffer: &mut [u8], page: &mut [u8], ink: Ink) -> Said
@@ -122,7 +123,7 @@ fn block(line: &[u8], at: usize, img: &[u8], buffer: &mut [u8], page: &mut [u8],
     if img.len() < end {
         return bad(ink);
     }
-    said(replies::say_bytes(page, ink, &img[start..end]))
+    good(replies::say_bytes(page, ink, &img[start..end]))
 }
 
 fn space(line: &[u8], at: usize, img: &[u8], buffer: &mut [u8], page: &mut [u8], ink: Ink) -> Said
@@ -134,7 +135,7 @@ fn space(line: &[u8], at: usize, img: &[u8], buffer: &mut [u8], page: &mut [u8],
     if !script::read_fields(line, at, b"", &mut values, &mut room, buffer) {
         return bad(ink);
     }
-    said(replies::say_space(page, ink, calls::space(img)))
+    good(replies::say_space(page, ink, calls::space(img)))
 }
 
 fn get_info(
@@ -154,7 +155,7 @@ fn get_info(
         return bad(ink);
     }
     let size = values[0];
-    said(replies::say_info(page, ink, calls::get_info(img, &room[0..size])))
+    good(replies::say_info(page, ink, calls::get_info(img, &room[0..size])))
 }
 
 // The call read, with a buffer of its own.
@@ -166,12 +167,12 @@ fn read_into(
     page: &mut [u8],
     ink: Ink,
 ) -> Said
-    ensures { λ r. ⌜ ReadsInto (length (now (img .entry))) (view (now (img .entry))) (view (now (path .entry))) (length (now (path .entry))) position (length (now (buffer .entry))) (sheet ink (now (page .entry))) r (now (buffer .exit)) (now (page .exit)) ⌝ }
+    ensures { λ r. ⌜ ReadsInto (readCall (length (now (img .entry))) (view (now (img .entry))) (view (now (path .entry))) (length (now (path .entry))) position (equals (length (now (buffer .entry))) 0xA5) (length (now (buffer .entry)))) (length (now (buffer .entry))) (sheet ink (now (page .entry))) r (now (buffer .exit)) (now (page .exit)) ⌝ }
 {
     let size = buffer.len();
     fill_run(buffer, 0, size, BEFORE);
     let answer = calls::read(img, path, position, buffer);
-    said(replies::say_read(page, ink, answer, buffer))
+    good(replies::say_read(page, ink, answer, buffer))
 }
 
 fn read(line: &[u8], at: usize, img: &[u8], buffer: &mut [u8], page: &mut [u8], ink: Ink) -> Said
@@ -247,7 +248,7 @@ fn find(line: &[u8], at: usize, img: &[u8], buffer: &mut [u8], page: &mut [u8], 
         return bad(ink);
     }
     let size = values[0];
-    said(say_opened(img, &room[0..size], page, ink))
+    good(say_opened(img, &room[0..size], page, ink))
 }
 
 // The commands that only look; any other word is unknown.

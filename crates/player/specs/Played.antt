@@ -141,7 +141,7 @@ abbrev pub rooms : List ℕ → List ℕ → List ℕ → Rooms
 rooms image buffer page = record { image = length image; buffer = length buffer; page = length page }
 
 -- The rooms hold what a stage says.
-pub record Holds (t : Stage) (image buffer page : List ℕ) : Type 0 where
-  pub image : view image ≡ t .image
-  pub buffer : view buffer ≡ t .buffer
-  pub page : view page ≡ t .page
+pub record Holds (t : Stage) (i b p : List ℕ) : Type 0 where
+  pub image : view i ≡ t .image
+  pub buffer : view b ≡ t .buffer
+  pub page : view p ≡ t .page

@@ -187,11 +187,11 @@ readFields s n most forms i zero f = f
 readFields s n most forms i (suc k) f = readFields s n most forms (i + 1) k (readField s n most (forms i) i f)
 
 -- The lists afterwards are what reading left, and the answer says whether the line of n bytes ends there.
-pub record Takes (f : Fields) (n : ℕ) (r : Bool) (values room buffer : List ℕ) : Type 0 where
+pub record Takes (f : Fields) (n : ℕ) (r : Bool) (vs texts bytes : List ℕ) : Type 0 where
   pub good : r ≡ eqb (f .at) n
-  pub values : view values ≡ f .values
-  pub room : view room ≡ f .room
-  pub buffer : view buffer ≡ f .buffer
+  pub values : view vs ≡ f .values
+  pub room : view texts ≡ f .room
+  pub buffer : view bytes ≡ f .buffer
 
 -- What a value of a form is at most, where its field is good; m is the buffer's size.
 abbrev pub formMost : ℕ → ℕ → ℕ

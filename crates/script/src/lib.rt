@@ -353,7 +353,7 @@ pub fn read_fields(
 ) -> bool
     requires { ⌜ (length (now line) ≤ 4096) × (length (now forms) ≤ length (now values)) × (length (now room) ≡ 256) ⌝ }
     ensures { λ r. ⌜ Takes (readFields (view (now (line .entry))) (length (now (line .entry))) (length (now (buffer .entry))) (view (now (forms .entry))) 0 (length (now (forms .entry))) (record { at = at; values = view (now (values .entry)); room = view (now (room .entry)); buffer = view (now (buffer .entry)) })) (length (now (line .entry))) r (now (values .exit)) (now (room .exit)) (now (buffer .exit)) ⌝ }
-    ensures { λ r. ⌜ r ≡ true → Fits (length (now (buffer .entry))) (view (now (forms .entry))) (length (now (forms .entry))) (view (now (values .exit))) ⌝ }
+    ensures { λ r. ⌜ (r ≡ true → Fits (length (now (buffer .entry))) (view (now (forms .entry))) (length (now (forms .entry))) (view (now (values .exit)))) ⌝ }
 {
     let mut now = at;
     let mut i = 0;
