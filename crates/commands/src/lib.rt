@@ -1,29 +1,51 @@
 // The commands of a script that change no volume by a call: raw bytes of the image, and the calls that read.
 // Each reads all its fields before it does anything; a bad line does and prints nothing.
+ghost use mathlib.Core.Path.{_≡_};
+ghost use mathlib.Core.Bool.{true, false};
+ghost use mathlib.Core.List.{[], _∷_};
 ghost use Prim.Native.Nat.{_+_, _≤_};
 ghost use lib.ListN.{length};
-use console::PAGE;
+ghost use Rattle.model.specs.Bytes.{view, paste};
+ghost use Rattle.model.specs.Read.{read as readCall};
+ghost use Rattle.ink.specs.Ink.{sheet, Prints};
+ghost use Rattle.opening.specs.Opened.{openedBy};
+ghost use Rattle.replies.specs.Lines.{okLine};
+ghost use Rattle.commands.specs.Scenes.{scene, Leaves};
+ghost use Rattle.commands.specs.Commands.{same, equals, setDoes, setRunDoes, digestDoes, blockDoes, spaceDoes, getInfoDoes, ReadsInto, readDoes, blocksRead, placeForms, foundLine, findDoes, looks, runs};
 use directory::Home;
+use ink::Ink;
 use model::Place;
 use opening::Opened;
-use replies::Said;
-use script::Cursor;
-use script::LARGEST;
-use script::TEXT;
+use script::FIELDS;
+use script::ROOM;
 
 const BLOCK: usize = 512;
-
-// The largest image, in blocks and in bytes.
-const MOST_BLOCKS: usize = 8192;
-
-const MOST_BYTES: usize = 4194304;
 
 // What a buffer holds before a read, so that bytes left alone are seen.
 const BEFORE: u8 = 0xA5;
 
+// What a command leaves: the page, and whether its line was good.
+pub struct Said {
+    pub ink: Ink,
+    pub good: bool,
+}
+
+pub fn good(ink: Ink) -> Said
+    ensures { λ r. ⌜ r ≡ record { ink = ink; good = true } ⌝ }
+{
+    Said { ink, good: true }
+}
+
+pub fn bad(ink: Ink) -> Said
+    ensures { λ r. ⌜ r ≡ record { ink = ink; good = false } ⌝ }
+{
+    Said { ink, good: false }
+}
+
 // `count` equal bytes.
 pub fn fill_run(s: &mut [u8], to: usize, count: usize, byte: u8)
     requires { ⌜ to + count ≤ length (now s) ⌝ }
+    ensures { λ _. ⌜ view (now (s .exit)) ≡ paste (view (now (s .entry))) to count (same byte) ⌝ }
 {
     let mut filled = 0;
     while filled < count {
@@ -32,82 +54,108 @@ pub fn fill_run(s: &mut [u8], to: usize, count: usize, byte: u8)
     }
 }
 
-fn set(
+fn set(line: &[u8], at: usize, img: &mut [u8], buffer: &mut [u8], page: &mut [u8], ink: Ink) -> Said
+    requires { ⌜ length (now line) ≤ 4096 ⌝ }
+    ensures { λ r. ⌜ Leaves (setDoes (scene (now (line .entry)) at (now (img .entry)) (now (buffer .entry)))) (sheet ink (now (page .entry))) r (now (img .exit)) (now (buffer .exit)) (now (page .exit)) ⌝ }
+{
+    let mut values = [0usize; FIELDS];
+    let mut room = [0u8; ROOM];
+    if !script::read_fields(line, at, b"ND", &mut values, &mut room, buffer) {
+        return bad(ink);
+    }
+    let address = values[0];
+    let count = values[1];
+    if img.len() < address + count {
+        return bad(ink);
+    }
+    store::copy_run(img, address, buffer, 0, count);
+    good(replies::say_ok(page, ink, b"", &[]))
+}
+
+fn set_run(
     line: &[u8],
-    at: Cursor,
+    at: usize,
     img: &mut [u8],
     buffer: &mut [u8],
-    page: &mut [u8; PAGE],
-    used: usize,
-) -> Said {
-    let address = script::read_number(line, at, MOST_BYTES);
-    let after_address = address.next;
-    let data = script::read_data(line, after_address, buffer);
-    let last = data.next;
-    if !script::is_done(line, last) {
-        return replies::say_bad(used);
+    page: &mut [u8],
+    ink: Ink,
+) -> Said
+    requires { ⌜ length (now line) ≤ 4096 ⌝ }
+    ensures { λ r. ⌜ Leaves (setRunDoes (scene (now (line .entry)) at (now (img .entry)) (now (buffer .entry)))) (sheet ink (now (page .entry))) r (now (img .exit)) (now (buffer .exit)) (now (page .exit)) ⌝ }
+{
+    let mut values = [0usize; FIELDS];
+    let mut room = [0u8; ROOM];
+    if !script::read_fields(line, at, b"NNB", &mut values, &mut room, buffer) {
+        return bad(ink);
     }
-    if img.len() < address.value + data.count {
-        return replies::say_bad(used);
+    let address = values[0];
+    let count = values[1];
+    if img.len() < address + count {
+        return bad(ink);
     }
-    store::copy_run(img, address.value, buffer, 0, data.count);
-    replies::say_done(page, used)
+    fill_run(img, address, count, values[2] as u8);
+    good(replies::say_ok(page, ink, b"", &[]))
 }
 
-fn set_run(line: &[u8], at: Cursor, img: &mut [u8], page: &mut [u8; PAGE], used: usize) -> Said {
-    let address = script::read_number(line, at, MOST_BYTES);
-    let after_address = address.next;
-    let count = script::read_number(line, after_address, MOST_BYTES);
-    let after_count = count.next;
-    let byte = script::read_byte(line, after_count);
-    let last = byte.next;
-    if !script::is_done(line, last) {
-        return replies::say_bad(used);
+fn digest(line: &[u8], at: usize, img: &[u8], buffer: &mut [u8], page: &mut [u8], ink: Ink) -> Said
+    requires { ⌜ length (now line) ≤ 4096 ⌝ }
+    ensures { λ r. ⌜ Leaves (digestDoes (scene (now (line .entry)) at (now (img .entry)) (now (buffer .entry)))) (sheet ink (now (page .entry))) r (now (img .exit)) (now (buffer .exit)) (now (page .exit)) ⌝ }
+{
+    let mut values = [0usize; FIELDS];
+    let mut room = [0u8; ROOM];
+    if !script::read_fields(line, at, b"", &mut values, &mut room, buffer) {
+        return bad(ink);
     }
-    if img.len() < address.value + count.value {
-        return replies::say_bad(used);
-    }
-    fill_run(img, address.value, count.value, byte.value);
-    replies::say_done(page, used)
+    good(replies::say_digest(page, ink, img))
 }
 
-fn digest(line: &[u8], at: Cursor, img: &[u8], page: &mut [u8; PAGE], used: usize) -> Said {
-    if !script::is_done(line, at) {
-        return replies::say_bad(used);
+fn block(line: &[u8], at: usize, img: &[u8], buffer: &mut [u8], page: &mut [u8], ink: Ink) -> Said
+    requires { ⌜ length (now line) ≤ 4096 ⌝ }
+    ensures { λ r. ⌜ Leaves (blockDoes (scene (now (line .entry)) at (now (img .entry)) (now (buffer .entry)))) (sheet ink (now (page .entry))) r (now (img .exit)) (now (buffer .exit)) (now (page .exit)) ⌝ }
+{
+    let mut values = [0usize; FIELDS];
+    let mut room = [0u8; ROOM];
+    if !script::read_fields(line, at, b"N", &mut values, &mut room, buffer) {
+        return bad(ink);
     }
-    replies::say_digest(page, used, img)
-}
-
-fn block(line: &[u8], at: Cursor, img: &[u8], page: &mut [u8; PAGE], used: usize) -> Said {
-    let number = script::read_number(line, at, MOST_BLOCKS);
-    let last = number.next;
-    if !script::is_done(line, last) {
-        return replies::say_bad(used);
-    }
-    let start = number.value * BLOCK;
+    let start = values[0] * BLOCK;
     let end = start + BLOCK;
     if img.len() < end {
-        return replies::say_bad(used);
+        return bad(ink);
     }
-    replies::say_bytes(page, used, &img[start..end])
+    good(replies::say_bytes(page, ink, &img[start..end]))
 }
 
-fn space(line: &[u8], at: Cursor, img: &[u8], page: &mut [u8; PAGE], used: usize) -> Said {
-    if !script::is_done(line, at) {
-        return replies::say_bad(used);
+fn space(line: &[u8], at: usize, img: &[u8], buffer: &mut [u8], page: &mut [u8], ink: Ink) -> Said
+    requires { ⌜ length (now line) ≤ 4096 ⌝ }
+    ensures { λ r. ⌜ Leaves (spaceDoes (scene (now (line .entry)) at (now (img .entry)) (now (buffer .entry)))) (sheet ink (now (page .entry))) r (now (img .exit)) (now (buffer .exit)) (now (page .exit)) ⌝ }
+{
+    let mut values = [0usize; FIELDS];
+    let mut room = [0u8; ROOM];
+    if !script::read_fields(line, at, b"", &mut values, &mut room, buffer) {
+        return bad(ink);
     }
-    replies::say_space(page, used, info::space(img))
+    good(replies::say_space(page, ink, info::space(img)))
 }
 
-fn get_info(line: &[u8], at: Cursor, img: &[u8], page: &mut [u8; PAGE], used: usize) -> Said {
-    let mut room = [0u8; TEXT];
-    let path = script::read_text(line, at, &mut room);
-    let last = path.next;
-    if !script::is_done(line, last) {
-        return replies::say_bad(used);
+fn get_info(
+    line: &[u8],
+    at: usize,
+    img: &[u8],
+    buffer: &mut [u8],
+    page: &mut [u8],
+    ink: Ink,
+) -> Said
+    requires { ⌜ length (now line) ≤ 4096 ⌝ }
+    ensures { λ r. ⌜ Leaves (getInfoDoes (scene (now (line .entry)) at (now (img .entry)) (now (buffer .entry)))) (sheet ink (now (page .entry))) r (now (img .exit)) (now (buffer .exit)) (now (page .exit)) ⌝ }
+{
+    let mut values = [0usize; FIELDS];
+    let mut room = [0u8; ROOM];
+    if !script::read_fields(line, at, b"T", &mut values, &mut room, buffer) {
+        return bad(ink);
     }
-    let size = path.count;
-    replies::say_info(page, used, info::get_info(img, &room[0..size]))
+    let size = values[0];
+    good(replies::say_info(page, ink, info::get_info(img, &room[0..size])))
 }
 
 // The call read, with a buffer of its own.
@@ -116,48 +164,45 @@ fn read_into(
     path: &[u8],
     position: usize,
     buffer: &mut [u8],
-    page: &mut [u8; PAGE],
-    used: usize,
-) -> Said {
+    page: &mut [u8],
+    ink: Ink,
+) -> Said
+    ensures { λ r. ⌜ ReadsInto (readCall (length (now (img .entry))) (view (now (img .entry))) (view (now (path .entry))) (length (now (path .entry))) position (equals (length (now (buffer .entry))) 0xA5) (length (now (buffer .entry)))) (length (now (buffer .entry))) (sheet ink (now (page .entry))) r (now (buffer .exit)) (now (page .exit)) ⌝ }
+{
     let size = buffer.len();
     fill_run(buffer, 0, size, BEFORE);
     let answer = read::read(img, path, position, buffer);
-    replies::say_read(page, used, answer, buffer)
+    good(replies::say_read(page, ink, answer, buffer))
 }
 
-fn read(
-    line: &[u8],
-    at: Cursor,
-    img: &[u8],
-    buffer: &mut [u8],
-    page: &mut [u8; PAGE],
-    used: usize,
-) -> Said {
-    let mut room = [0u8; TEXT];
-    let path = script::read_text(line, at, &mut room);
-    let after_path = path.next;
-    let position = script::read_number(line, after_path, LARGEST);
-    let after_position = position.next;
-    let most = buffer.len();
-    let count = script::read_number(line, after_position, most);
-    let last = count.next;
-    if !script::is_done(line, last) {
-        return replies::say_bad(used);
+fn read(line: &[u8], at: usize, img: &[u8], buffer: &mut [u8], page: &mut [u8], ink: Ink) -> Said
+    requires { ⌜ length (now line) ≤ 4096 ⌝ }
+    ensures { λ r. ⌜ Leaves (readDoes (scene (now (line .entry)) at (now (img .entry)) (now (buffer .entry)))) (sheet ink (now (page .entry))) r (now (img .exit)) (now (buffer .exit)) (now (page .exit)) ⌝ }
+{
+    let mut values = [0usize; FIELDS];
+    let mut room = [0u8; ROOM];
+    if !script::read_fields(line, at, b"TNN", &mut values, &mut room, buffer) {
+        return bad(ink);
     }
-    let size = path.count;
-    let wanted = count.value;
+    let size = values[0];
+    let count = values[2];
+    if buffer.len() < count {
+        return bad(ink);
+    }
     read_into(
         img,
         &room[0..size],
-        position.value,
-        &mut buffer[0..wanted],
+        values[1],
+        &mut buffer[0..count],
         page,
-        used,
+        ink,
     )
 }
 
 // How many blocks of a directory's chain are read from its key block on until a block is reached.
-fn blocks_read(img: &[u8], key: usize, goal: usize) -> usize {
+fn blocks_read(img: &[u8], key: usize, goal: usize) -> usize
+    ensures { λ r. ⌜ r ≡ blocksRead (length (now (img .entry))) (view (now (img .entry))) key goal ⌝ }
+{
     let most = img.len() / BLOCK;
     let mut block = key;
     let mut read: usize = 1;
@@ -174,76 +219,81 @@ fn blocks_read(img: &[u8], key: usize, goal: usize) -> usize {
     read
 }
 
-fn say_found(img: &[u8], home: Home, place: Place, page: &mut [u8; PAGE], used: usize) -> Said {
+fn say_found(img: &[u8], home: Home, place: Place, page: &mut [u8], ink: Ink) -> Ink
+    ensures { λ r. ⌜ Prints (okLine placeForms (place .block ∷ place .slot ∷ blocksRead (length (now (img .entry))) (view (now (img .entry))) (home .key) (place .block) ∷ [])) (sheet ink (now (page .entry))) (sheet r (now (page .exit))) ⌝ }
+{
     let block = place.block as usize;
     let read = blocks_read(img, home.key as usize, block);
-    replies::say_place(page, used, block, place.slot as usize, read)
+    replies::say_ok(page, ink, b"NNN", &[block, place.slot as usize, read])
 }
 
 // Where the entry stands that a path leads to; the volume's header is slot 1 of block 2.
-fn say_opened(img: &[u8], path: &[u8], page: &mut [u8; PAGE], used: usize) -> Said {
+fn say_opened(img: &[u8], path: &[u8], page: &mut [u8], ink: Ink) -> Ink
+    ensures { λ r. ⌜ Prints (foundLine (length (now (img .entry))) (view (now (img .entry))) (openedBy (length (now (img .entry))) (view (now (img .entry))) (view (now (path .entry))) (length (now (path .entry))))) (sheet ink (now (page .entry))) (sheet r (now (page .exit))) ⌝ }
+{
     match opening::opened_by(img, path) {
-        Opened::Refused(why) => replies::say_refused(page, used, why),
-        Opened::Volume(_) => replies::say_place(page, used, 2, 1, 1),
-        Opened::Entry(_, home, place, _) => say_found(img, home, place, page, used),
+        Opened::Refused(why) => replies::say_refused(page, ink, why),
+        Opened::Volume(_) => replies::say_ok(page, ink, b"NNN", &[2, 1, 1]),
+        Opened::Entry(_, home, place, _) => say_found(img, home, place, page, ink),
     }
 }
 
-fn find(line: &[u8], at: Cursor, img: &[u8], page: &mut [u8; PAGE], used: usize) -> Said {
-    let mut room = [0u8; TEXT];
-    let path = script::read_text(line, at, &mut room);
-    let last = path.next;
-    if !script::is_done(line, last) {
-        return replies::say_bad(used);
+fn find(line: &[u8], at: usize, img: &[u8], buffer: &mut [u8], page: &mut [u8], ink: Ink) -> Said
+    requires { ⌜ length (now line) ≤ 4096 ⌝ }
+    ensures { λ r. ⌜ Leaves (findDoes (scene (now (line .entry)) at (now (img .entry)) (now (buffer .entry)))) (sheet ink (now (page .entry))) r (now (img .exit)) (now (buffer .exit)) (now (page .exit)) ⌝ }
+{
+    let mut values = [0usize; FIELDS];
+    let mut room = [0u8; ROOM];
+    if !script::read_fields(line, at, b"T", &mut values, &mut room, buffer) {
+        return bad(ink);
     }
-    let size = path.count;
-    say_opened(img, &room[0..size], page, used)
+    let size = values[0];
+    good(say_opened(img, &room[0..size], page, ink))
 }
 
 // The commands that only look; any other word is unknown.
-fn look(
-    line: &[u8],
-    at: Cursor,
-    img: &[u8],
-    buffer: &mut [u8],
-    page: &mut [u8; PAGE],
-    used: usize,
-) -> Said {
-    if script::is_command(line, at, b"digest") {
-        return digest(line, at, img, page, used);
+fn look(line: &[u8], at: usize, img: &[u8], buffer: &mut [u8], page: &mut [u8], ink: Ink) -> Said
+    requires { ⌜ length (now line) ≤ 4096 ⌝ }
+    ensures { λ r. ⌜ Leaves (looks (scene (now (line .entry)) at (now (img .entry)) (now (buffer .entry)))) (sheet ink (now (page .entry))) r (now (img .exit)) (now (buffer .exit)) (now (page .exit)) ⌝ }
+{
+    if script::is_word(line, at, b"digest") {
+        return digest(line, at, img, buffer, page, ink);
     }
-    if script::is_command(line, at, b"block") {
-        return block(line, at, img, page, used);
+    if script::is_word(line, at, b"block") {
+        return block(line, at, img, buffer, page, ink);
     }
-    if script::is_command(line, at, b"space") {
-        return space(line, at, img, page, used);
+    if script::is_word(line, at, b"space") {
+        return space(line, at, img, buffer, page, ink);
     }
-    if script::is_command(line, at, b"getinfo") {
-        return get_info(line, at, img, page, used);
+    if script::is_word(line, at, b"getinfo") {
+        return get_info(line, at, img, buffer, page, ink);
     }
-    if script::is_command(line, at, b"read") {
-        return read(line, at, img, buffer, page, used);
+    if script::is_word(line, at, b"read") {
+        return read(line, at, img, buffer, page, ink);
     }
-    if script::is_command(line, at, b"find") {
-        return find(line, at, img, page, used);
+    if script::is_word(line, at, b"find") {
+        return find(line, at, img, buffer, page, ink);
     }
-    replies::say_bad(used)
+    bad(ink)
 }
 
 // A command on an image; one with a word that is none of these is bad.
 pub fn run(
     line: &[u8],
-    at: Cursor,
+    at: usize,
     img: &mut [u8],
     buffer: &mut [u8],
-    page: &mut [u8; PAGE],
-    used: usize,
-) -> Said {
-    if script::is_command(line, at, b"set") {
-        return set(line, at, img, buffer, page, used);
+    page: &mut [u8],
+    ink: Ink,
+) -> Said
+    requires { ⌜ length (now line) ≤ 4096 ⌝ }
+    ensures { λ r. ⌜ Leaves (runs (scene (now (line .entry)) at (now (img .entry)) (now (buffer .entry)))) (sheet ink (now (page .entry))) r (now (img .exit)) (now (buffer .exit)) (now (page .exit)) ⌝ }
+{
+    if script::is_word(line, at, b"set") {
+        return set(line, at, img, buffer, page, ink);
     }
-    if script::is_command(line, at, b"setrun") {
-        return set_run(line, at, img, page, used);
+    if script::is_word(line, at, b"setrun") {
+        return set_run(line, at, img, buffer, page, ink);
     }
-    look(line, at, img, buffer, page, used)
+    look(line, at, img, buffer, page, ink)
 }

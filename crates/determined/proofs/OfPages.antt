@@ -4,7 +4,7 @@ use mathlib.Core.Path.{_≡_, refl, sym, ap, _∙_}
 use mathlib.Core.List.{List}
 use lib.ListN.{length}
 use Rattle.model.specs.Bytes.{view, paste, from}
-use Rattle.listing.specs.Ink.{Shows}
+use Rattle.ink.specs.Ink.{Shows}
 use Rattle.determined.proofs.Determined.{Determined, same-list}
 use Rattle.listing.proofs.page_of_volume.Reads as page-of-volume-reads
 use Rattle.listing.proofs.page_of_volume.Kinds as page-of-volume-kinds

@@ -1,4 +1,3 @@
--- The laws of listing: a page after a text, the texts piece by piece, and the walk of a directory.
-pub mod InkLaws
+-- The laws of listing: a path with one more name, and the walk of a directory.
 pub mod TextLaws
 pub mod WalkLaws

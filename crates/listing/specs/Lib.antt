@@ -1,3 +1,2 @@
--- The definitions of listing: what is on a page after some text was emitted, and the text of a directory's slots.
-pub mod Ink
+-- The definitions of listing: the text of a directory's slots.
 pub mod Walked

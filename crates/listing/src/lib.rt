@@ -1,5 +1,5 @@
 // What `catalog` prints, a page at a time: a page shows the bytes of the text from an offset on.
-// The text is never held as a whole: the walk emits it byte by byte, and a page keeps what falls on it.
+// The text is never held as a whole: the walk emits it (`ink`), and a page keeps what falls on it.
 ghost use mathlib.Core.Path.{_≡_};
 ghost use mathlib.Core.Bool.{true};
 ghost use mathlib.Core.List.{[], _∷_};
@@ -7,11 +7,12 @@ ghost use Prim.Native.Nat.{_+_, _*_, _/_, _≤_, _<_};
 ghost use lib.ListN.{length};
 ghost use Rattle.model.specs.Bytes.{view};
 ghost use Rattle.model.specs.Directory.{at};
-ghost use Rattle.model.specs.Catalog.{decimalBefore, decimal, hexDigit, hexByte, text, space′, firstLine, listing, refusedLine, tooLargeLine};
+ghost use Rattle.model.specs.Catalog.{text, firstLine, listing, refusedLine, tooLargeLine};
 ghost use Rattle.model.specs.Sound.{sound};
 ghost use Rattle.directory.specs.Search.{Each, slotsFrom, listed};
-ghost use Rattle.listing.specs.Ink.{sheet, Prints, Shows};
+ghost use Rattle.ink.specs.Ink.{sheet, Prints, Shows};
 ghost use Rattle.listing.specs.Walked.{lineOf, walked, Extended, blockCount, Whole, Listed, Chained};
+use ink::Ink;
 
 const BLOCK: usize = 512;
 
@@ -43,99 +44,19 @@ const NEWLINE: u8 = 10;
 
 const SLASH: u8 = 47;
 
-// Bytes of the text that are still to be skipped, and bytes of the page that are written.
-struct Ink {
-    skip: usize,
-    at: usize,
-}
-
-// Skips the byte, lays it on the page, or drops it past the page's end.
-fn emit_byte(page: &mut [u8], ink: Ink, byte: u8) -> Ink
-    ensures { λ r. ⌜ Prints (byte ∷ []) (sheet ink (now (page .entry))) (sheet r (now (page .exit))) ⌝ }
-{
-    let at = ink.at;
-    if 0 < ink.skip {
-        return Ink {
-            skip: ink.skip - 1,
-            at,
-        };
-    }
-    if at < page.len() {
-        page[at] = byte;
-        return Ink {
-            skip: ink.skip,
-            at: at + 1,
-        };
-    }
-    ink
-}
-
-// The `count` bytes of s from `start` on.
-fn emit_run(page: &mut [u8], ink: Ink, s: &[u8], start: usize, count: usize) -> Ink
-    requires { ⌜ start + count ≤ length (now s) ⌝ }
-    ensures { λ r. ⌜ Prints (text (view (now (s .entry))) start count) (sheet ink (now (page .entry))) (sheet r (now (page .exit))) ⌝ }
-{
-    let mut now = ink;
-    let mut passed = 0;
-    while passed < count {
-        now = emit_byte(page, now, s[start + passed]);
-        passed += 1;
-    }
-    now
-}
-
-// A number in decimal, the last `places` digits at most.
-fn emit_number(page: &mut [u8], ink: Ink, places: usize, x: usize) -> Ink
-    ensures { λ r. ⌜ Prints (decimalBefore places x []) (sheet ink (now (page .entry))) (sheet r (now (page .exit))) ⌝ }
-{
-    if places == 0 {
-        return ink;
-    }
-    if x < 10 {
-        return emit_byte(page, ink, 48 + x as u8);
-    }
-    let high = emit_number(page, ink, places - 1, x / 10);
-    emit_byte(page, high, 48 + (x % 10) as u8)
-}
-
-// A space and a number in decimal: no number of a listing has more than eight digits.
-fn emit_decimal(page: &mut [u8], ink: Ink, x: usize) -> Ink
-    ensures { λ r. ⌜ Prints (space′ ∷ decimal x) (sheet ink (now (page .entry))) (sheet r (now (page .exit))) ⌝ }
-{
-    let spaced = emit_byte(page, ink, SPACE);
-    emit_number(page, spaced, 8, x)
-}
-
-fn hex_digit(x: u8) -> u8
-    requires { ⌜ x < 16 ⌝ }
-    ensures { λ r. ⌜ r ≡ hexDigit x ⌝ }
-{
-    if x < 10 {
-        return 48 + x;
-    }
-    55 + x
-}
-
-fn emit_hex_byte(page: &mut [u8], ink: Ink, x: u8) -> Ink
-    ensures { λ r. ⌜ Prints (hexByte x) (sheet ink (now (page .entry))) (sheet r (now (page .exit))) ⌝ }
-{
-    let high = emit_byte(page, ink, hex_digit(x / 16));
-    emit_byte(page, high, hex_digit(x % 16))
-}
-
 // The line of an entry whose path is the first `len` bytes of `path`.
 fn emit_line(page: &mut [u8], ink: Ink, slot: &[u8], path: &[u8], len: usize) -> Ink
     requires { ⌜ (length (now slot) ≡ 39) × (len ≤ length (now path)) ⌝ }
     ensures { λ r. ⌜ Prints (lineOf (view (now (slot .entry))) (text (view (now (path .entry))) 0 len)) (sheet ink (now (page .entry))) (sheet r (now (page .exit))) ⌝ }
 {
-    let kind = emit_byte(page, ink, hex_digit(slot[0] / 16));
-    let gap = emit_byte(page, kind, SPACE);
-    let ftype = emit_hex_byte(page, gap, slot[0x10]);
-    let used = emit_decimal(page, ftype, store::get_word(slot, 0x13));
-    let eof = emit_decimal(page, used, store::get_long(slot, 0x15));
-    let gap = emit_byte(page, eof, SPACE);
-    let name = emit_run(page, gap, path, 0, len);
-    emit_byte(page, name, NEWLINE)
+    let kind = ink::emit_byte(page, ink, ink::hex_digit(slot[0] / 16));
+    let gap = ink::emit_byte(page, kind, SPACE);
+    let ftype = ink::emit_hex_byte(page, gap, slot[0x10]);
+    let used = ink::emit_decimal(page, ftype, store::get_word(slot, 0x13));
+    let eof = ink::emit_decimal(page, used, store::get_long(slot, 0x15));
+    let gap = ink::emit_byte(page, eof, SPACE);
+    let name = ink::emit_run(page, gap, path, 0, len);
+    ink::emit_byte(page, name, NEWLINE)
 }
 
 // Puts a slash and the name that is stored at an address behind the first `len` bytes of a path; its new length.
@@ -246,11 +167,11 @@ fn emit_first_line(img: &[u8], n: usize, page: &mut [u8], ink: Ink) -> Ink
     ensures { λ r. ⌜ Prints (firstLine n (view (now (img .entry)))) (sheet ink (now (page .entry))) (sheet r (now (page .exit))) ⌝ }
 {
     let size = (img[VOLUME_HEADER] % 16) as usize;
-    let name = emit_run(page, ink, img, VOLUME_HEADER + 1, size);
-    let total = emit_decimal(page, name, n);
+    let name = ink::emit_run(page, ink, img, VOLUME_HEADER + 1, size);
+    let total = ink::emit_decimal(page, name, n);
     let free = map::free_blocks(img, store::get_word(img, MAP_FIELD), n);
-    let space = emit_decimal(page, total, free);
-    emit_byte(page, space, NEWLINE)
+    let space = ink::emit_decimal(page, total, free);
+    ink::emit_byte(page, space, NEWLINE)
 }
 
 // The whole listing; `path` is room for the longest path.
@@ -294,9 +215,9 @@ pub fn page_of_refusal(number: u8, offset: usize, page: &mut [u8]) -> usize
         skip: offset,
         at: 0,
     };
-    let word = emit_run(page, start, b"REFUSED ", 0, 8);
-    let digits = emit_hex_byte(page, word, number);
-    let end = emit_byte(page, digits, NEWLINE);
+    let word = ink::emit_run(page, start, b"REFUSED ", 0, 8);
+    let digits = ink::emit_hex_byte(page, word, number);
+    let end = ink::emit_byte(page, digits, NEWLINE);
     end.at
 }
 
@@ -308,6 +229,6 @@ pub fn page_of_too_large(offset: usize, page: &mut [u8]) -> usize
         skip: offset,
         at: 0,
     };
-    let end = emit_run(page, start, b"TOO LARGE\n", 0, 10);
+    let end = ink::emit_run(page, start, b"TOO LARGE\n", 0, 10);
     end.at
 }

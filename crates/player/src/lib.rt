@@ -1,9 +1,12 @@
 // Plays a script of docs/REPLAY.md on one image, and prints a line for each command.
-ghost use Prim.Native.Nat.{_≤_};
+// What is printed gathers on a page and is written out in large pieces.
 ghost use lib.ListN.{length};
-pub use console::PAGE;
+ghost use Rattle.model.specs.Bytes.{view};
+ghost use Rattle.player.specs.Played.{rooms, staged, Holds};
+use ink::Ink;
 use libc::STDOUT_FILENO;
-use script::Cursor;
+use script::FIELDS;
+use script::ROOM;
 
 // One byte more than the largest script, so that a larger one is seen to be one.
 pub const SCRIPT: usize = 1048577;
@@ -14,6 +17,11 @@ pub const IMAGE: usize = 4194304;
 // The longest buffer of a read or a write.
 pub const BUFFER: usize = 262144;
 
+pub const PAGE: usize = 65536;
+
+const BLOCK: usize = 512;
+
+// No line is longer, of a script or printed.
 const LONGEST_LINE: usize = 4096;
 
 // The image's length, and the bytes of the page in use.
@@ -22,102 +30,90 @@ struct State {
     used: usize,
 }
 
-// The same after a command, and whether its line was good.
+// The image's length and the page after a command, and whether its line was good.
 struct After {
     size: usize,
-    used: usize,
+    ink: Ink,
     good: bool,
 }
 
-fn unchanged(state: State) -> After
-    ensures { λ r. ⌜ r .size ≤ state .size ⌝ }
-{
+// A new image of zeros: the number in the line times `unit` bytes.
+fn renew(
+    line: &[u8],
+    at: usize,
+    unit: usize,
+    image: &mut [u8],
+    buffer: &mut [u8],
+    page: &mut [u8],
+    ink: Ink,
+    size: usize,
+) -> After {
+    let mut values = [0usize; FIELDS];
+    let mut room = [0u8; ROOM];
+    if !script::read_fields(line, at, b"N", &mut values, &mut room, buffer) {
+        return After {
+            size,
+            ink,
+            good: false,
+        };
+    }
+    let wanted = values[0] * unit;
+    if image.len() < wanted {
+        return After {
+            size,
+            ink,
+            good: false,
+        };
+    }
+    store::clear_run(image, 0, wanted);
     After {
-        size: state.size,
-        used: state.used,
-        good: false,
+        size: wanted,
+        ink: replies::say_ok(page, ink, b"", &[]),
+        good: true,
     }
-}
-
-// An image of zeros.
-fn renew(room: &mut [u8], size: usize, page: &mut [u8; PAGE], used: usize) -> After
-    requires { ⌜ size ≤ length (now room) ⌝ }
-    ensures { λ r. ⌜ r .size ≤ length (now (room .entry)) ⌝ }
-{
-    store::clear_run(room, 0, size);
-    let said = replies::say_done(page, used);
-    After {
-        size,
-        used: said.used,
-        good: said.good,
-    }
-}
-
-fn blocks(line: &[u8], at: Cursor, room: &mut [u8], page: &mut [u8; PAGE], state: State) -> After
-    requires { ⌜ state .size ≤ length (now room) ⌝ }
-    ensures { λ r. ⌜ r .size ≤ length (now (room .entry)) ⌝ }
-{
-    let most = room.len() / 512;
-    let number = script::read_number(line, at, most);
-    let last = number.next;
-    if !script::is_done(line, last) {
-        return unchanged(state);
-    }
-    renew(room, number.value * 512, page, state.used)
-}
-
-fn bytes(line: &[u8], at: Cursor, room: &mut [u8], page: &mut [u8; PAGE], state: State) -> After
-    requires { ⌜ state .size ≤ length (now room) ⌝ }
-    ensures { λ r. ⌜ r .size ≤ length (now (room .entry)) ⌝ }
-{
-    let most = room.len();
-    let length = script::read_number(line, at, most);
-    let last = length.next;
-    if !script::is_done(line, last) {
-        return unchanged(state);
-    }
-    renew(room, length.value, page, state.used)
 }
 
 // A command on the image as it is.
 fn on_image(
     line: &[u8],
-    at: Cursor,
-    room: &mut [u8],
+    at: usize,
+    image: &mut [u8],
     buffer: &mut [u8],
-    page: &mut [u8; PAGE],
-    state: State,
-) -> After
-    requires { ⌜ state .size ≤ length (now room) ⌝ }
-    ensures { λ r. ⌜ r .size ≤ length (now (room .entry)) ⌝ }
-{
-    let size = state.size;
-    let said = changes::run(line, at, &mut room[0..size], buffer, page, state.used);
+    page: &mut [u8],
+    ink: Ink,
+    size: usize,
+) -> After {
+    let said = changes::run(line, at, &mut image[0..size], buffer, page, ink);
     After {
         size,
-        used: said.used,
+        ink: said.ink,
         good: said.good,
     }
 }
 
 fn command(
     line: &[u8],
-    room: &mut [u8],
+    image: &mut [u8],
     buffer: &mut [u8],
-    page: &mut [u8; PAGE],
-    state: State,
-) -> After
-    requires { ⌜ state .size ≤ length (now room) ⌝ }
-    ensures { λ r. ⌜ r .size ≤ length (now (room .entry)) ⌝ }
-{
-    let at = script::after_command(line);
-    if script::is_command(line, at, b"blocks") {
-        return blocks(line, at, room, page, state);
+    page: &mut [u8],
+    ink: Ink,
+    size: usize,
+) -> After {
+    if LONGEST_LINE < line.len() {
+        return After {
+            size,
+            ink,
+            good: false,
+        };
     }
-    if script::is_command(line, at, b"bytes") {
-        return bytes(line, at, room, page, state);
+    let at = script::word_end(line);
+    if script::is_word(line, at, b"blocks") {
+        return renew(line, at, BLOCK, image, buffer, page, ink, size);
     }
-    on_image(line, at, room, buffer, page, state)
+    if script::is_word(line, at, b"bytes") {
+        return renew(line, at, 1, image, buffer, page, ink, size);
+    }
+    on_image(line, at, image, buffer, page, ink, size)
 }
 
 // Does a line print nothing: is it empty, or a comment?
@@ -131,51 +127,57 @@ fn is_silent(line: &[u8]) -> bool {
     line[0] == b'#'
 }
 
-fn judged(page: &mut [u8; PAGE], number: usize, after: After) -> State
-    ensures { λ r. ⌜ r .size ≤ after .size ⌝ }
-{
-    if after.good {
-        return State {
-            size: after.size,
-            used: after.used,
-        };
+// Writes out what is on the page.
+fn flush(page: &[u8], used: usize) {
+    if used <= page.len() {
+        io::write_all(STDOUT_FILENO, &page[0..used]);
     }
-    State {
-        size: after.size,
-        used: replies::say_bad_line(page, after.used, number),
+}
+
+// A page with room for a line: the one in use, or the same written out.
+fn ready(page: &[u8], used: usize) -> Ink {
+    if used <= PAGE - LONGEST_LINE {
+        return Ink { skip: 0, at: used };
     }
+    flush(page, used);
+    Ink { skip: 0, at: 0 }
 }
 
 fn play_line(
     line: &[u8],
     number: usize,
-    room: &mut [u8],
+    image: &mut [u8],
     buffer: &mut [u8],
-    page: &mut [u8; PAGE],
+    page: &mut [u8],
     state: State,
-) -> State
-    requires { ⌜ state .size ≤ length (now room) ⌝ }
-    ensures { λ r. ⌜ r .size ≤ length (now (room .entry)) ⌝ }
-{
+) -> State {
     if is_silent(line) {
         return state;
     }
-    if LONGEST_LINE < line.len() {
-        return judged(page, number, unchanged(state));
+    let ink = ready(page, state.used);
+    let after = command(line, image, buffer, page, ink, state.size);
+    if after.good {
+        return State {
+            size: after.size,
+            used: after.ink.at,
+        };
     }
-    let after = command(line, room, buffer, page, state);
-    judged(page, number, after)
+    let told = replies::say_bad_line(page, after.ink, number);
+    State {
+        size: after.size,
+        used: told.at,
+    }
 }
 
 // Plays each line; the bytes of the page in use at the end.
-fn play_lines(text: &[u8], room: &mut [u8], buffer: &mut [u8], page: &mut [u8; PAGE]) -> usize {
+fn play_lines(text: &[u8], image: &mut [u8], buffer: &mut [u8], page: &mut [u8]) -> usize {
     let mut state = State { size: 0, used: 0 };
     let mut at = 0;
     let mut number = 0;
     while at < text.len() {
         let end = script::line_end(text, at);
         number += 1;
-        state = play_line(&text[at..end], number, room, buffer, page, state);
+        state = play_line(&text[at..end], number, image, buffer, page, state);
         if end == text.len() {
             return state.used;
         }
@@ -185,33 +187,13 @@ fn play_lines(text: &[u8], room: &mut [u8], buffer: &mut [u8], page: &mut [u8; P
 }
 
 // Plays a script on an image of its own, which is empty at the start; a script that is too large does nothing.
-pub fn play(text: &[u8], room: &mut [u8], buffer: &mut [u8], page: &mut [u8; PAGE]) {
+pub fn play(text: &[u8], image: &mut [u8], buffer: &mut [u8], page: &mut [u8])
+    ensures { λ _. ⌜ Holds (staged (rooms (now (image .entry)) (now (buffer .entry)) (now (page .entry))) (view (now (text .entry))) (length (now (text .entry))) (view (now (image .entry))) (view (now (buffer .entry))) (view (now (page .entry)))) (now (image .exit)) (now (buffer .exit)) (now (page .exit)) ⌝ }
+{
     if SCRIPT <= text.len() {
         io::write_all(STDOUT_FILENO, b"SCRIPT TOO LARGE\n");
         return;
     }
-    let used = play_lines(text, room, buffer, page);
-    console::flush(page, used);
-}
-
-fn play_from(
-    file: i32,
-    text: &mut [u8],
-    room: &mut [u8],
-    buffer: &mut [u8],
-    page: &mut [u8; PAGE],
-) {
-    let got = io::read_full(file, text);
-    play(&text[0..got], room, buffer, page);
-}
-
-// Plays the script that a file has.
-pub fn play_file(
-    file: i32,
-    text: &mut [u8; SCRIPT],
-    room: &mut [u8; IMAGE],
-    buffer: &mut [u8; BUFFER],
-    page: &mut [u8; PAGE],
-) {
-    play_from(file, text, room, buffer, page);
+    let used = play_lines(text, image, buffer, page);
+    flush(page, used);
 }

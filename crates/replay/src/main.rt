@@ -10,5 +10,6 @@ fn main() {
     let mut room = [0u8; IMAGE];
     let mut buffer = [0u8; BUFFER];
     let mut page = [0u8; PAGE];
-    player::play_file(STDIN_FILENO, &mut text, &mut room, &mut buffer, &mut page);
+    let got = io::read_full(STDIN_FILENO, &mut text);
+    player::play(&text[0..got], &mut room, &mut buffer, &mut page);
 }

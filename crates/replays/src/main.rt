@@ -19,8 +19,9 @@ fn play_file(
         os::fail(name);
         return;
     }
-    player::play_file(file, text, room, buffer, page);
+    let got = io::read_full(file, text);
     libc::close(file);
+    player::play(&text[0..got], room, buffer, page);
 }
 
 fn play_argument(

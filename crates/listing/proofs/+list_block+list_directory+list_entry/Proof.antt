@@ -8,10 +8,10 @@ use Rattle.model.specs.Directory.{place}
 use Rattle.model.specs.Catalog.{text}
 use Rattle.directory.specs.Search.{Each, slotsFrom, listed}
 use Rattle.directory.proofs.SearchLaws.{rest, rest-done, slots-more, slots-done, each-head, each-tail}
-use Rattle.listing.specs.Ink.{sheet, emit}
+use Rattle.ink.specs.Ink.{sheet, emit}
 use Rattle.listing.specs.Walked.{walked, blockCount, Listed}
-use Rattle.listing.proofs.InkLaws.{prints-none, prints-as, emit-rest, emit-done, _then_}
-use Rattle.listing.proofs.TextLaws.{text-start}
+use Rattle.ink.proofs.InkLaws.{prints-none, prints-as, emit-rest, emit-done, _then_}
+use Rattle.ink.proofs.TextLaws.{text-start}
 use Rattle.listing.proofs.WalkLaws.{block-text, chain-text, empty-text, Pending, pending, pending-block, pending-slots, pending-next, slot-few, slot-inside, slot-quiet, slot-leaf, directory-level, directory-chained, directory-text}
 use native.Mathlib.Omega.{arith}
 use Prim.Native.Nat.{ℕ, _+_, _-_, _*_, _/_, _≤_, _<_}

@@ -7,7 +7,7 @@ use Rattle.model.specs.Map.{room}
 use Rattle.model.specs.Directory.{at}
 use Rattle.model.specs.Catalog.{space′, decimal, firstLine}
 use Rattle.claims.proofs.SoundFacts.{sound-facts}
-use Rattle.listing.proofs.InkLaws.{prints-as, _then_}
+use Rattle.ink.proofs.InkLaws.{prints-as, _then_}
 use Rattle.listing.proofs.WalkLaws.{map-inside}
 use borrow.Author.Needs.{needs}
 use Rattle.listing.proofs.emit_first_line.Statement.{statement}

@@ -3,7 +3,7 @@ use native.Mathlib.Omega.{arith}
 use mathlib.Core.Path.{ap}
 use mathlib.Core.List.{_∷_}
 use Rattle.model.specs.Catalog.{space′, decimal}
-use Rattle.listing.proofs.InkLaws.{byte-as, prints-as, same-size, _then_}
+use Rattle.ink.proofs.InkLaws.{byte-as, prints-as, same-size, _then_}
 use borrow.Author.Needs.{needs}
 use Rattle.listing.proofs.emit_line.Statement.{statement}
 use Rattle.listing.proofs.emit_line.Tie as tie

@@ -1,7 +1,7 @@
 -- `listing::list_volume` meets its contract. The first line, then the slots of the volume directory. Assumes nothing.
 use native.Mathlib.Omega.{arith}
 use Rattle.claims.proofs.SoundFacts.{sound-facts}
-use Rattle.listing.proofs.InkLaws.{prints-as, _then_}
+use Rattle.ink.proofs.InkLaws.{prints-as, _then_}
 use Rattle.listing.proofs.WalkLaws.{whole, volume-chained, volume-text}
 use borrow.Author.Needs.{needs}
 use Rattle.listing.proofs.list_volume.Statement.{statement}

@@ -1,6 +1,6 @@
 -- `listing::page_of_refusal` meets its contract. A page shows what the line leaves on it. Assumes nothing.
 use Rattle.model.specs.Catalog.{text, refusedLine}
-use Rattle.listing.proofs.InkLaws.{shows, _then_}
+use Rattle.ink.proofs.InkLaws.{shows, _then_}
 use borrow.Author.Needs.{needs}
 use Rattle.listing.proofs.page_of_refusal.Statement.{statement}
 use Rattle.listing.proofs.page_of_refusal.Tie as tie

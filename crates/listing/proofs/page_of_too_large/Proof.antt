@@ -1,6 +1,6 @@
 -- `listing::page_of_too_large` meets its contract. A page shows what the line leaves on it. Assumes nothing.
 use Rattle.model.specs.Catalog.{text, tooLargeLine}
-use Rattle.listing.proofs.InkLaws.{shows}
+use Rattle.ink.proofs.InkLaws.{shows}
 use borrow.Author.Needs.{needs}
 use Rattle.listing.proofs.page_of_too_large.Statement.{statement}
 use Rattle.listing.proofs.page_of_too_large.Tie as tie

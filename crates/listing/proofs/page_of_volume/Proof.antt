@@ -1,5 +1,5 @@
 -- `listing::page_of_volume` meets its contract. A page shows what the whole listing leaves on it. Assumes nothing.
-use Rattle.listing.proofs.InkLaws.{shows}
+use Rattle.ink.proofs.InkLaws.{shows}
 use borrow.Author.Needs.{needs}
 use Rattle.listing.proofs.page_of_volume.Statement.{statement}
 use Rattle.listing.proofs.page_of_volume.Tie as tie

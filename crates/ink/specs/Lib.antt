@@ -1,0 +1,2 @@
+-- The definitions of ink: what is on a page after some text was emitted.
+pub mod Ink

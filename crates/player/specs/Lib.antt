@@ -1,0 +1,2 @@
+-- The definitions of player: a script played.
+pub mod Played

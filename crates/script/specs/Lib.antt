@@ -1,0 +1,2 @@
+-- The definitions of script: the word and the fields of a line.
+pub mod Fields
