@@ -18,3 +18,7 @@ pub mod OfGrowth
 pub mod OfPour
 pub mod OfShrink
 pub mod OfOpening
+pub mod OfInk
+pub mod OfReplies
+pub mod OfScript
+pub mod OfReplay

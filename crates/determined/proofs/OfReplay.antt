@@ -1,0 +1,66 @@
+-- Equal results of the commands of a script, and of a script played.
+use Prim.Native.Nat.{ℕ}
+use mathlib.Core.Path.{_≡_, refl, sym, ap, _∙_}
+use mathlib.Core.List.{List}
+use Rattle.model.specs.Bytes.{Bytes, view}
+use Rattle.ink.specs.Ink.{Sheet}
+use Rattle.commands.specs.Scenes.{Left, Leaves}
+use Rattle.commands.specs.declared.Said.{Said}
+use Rattle.player.specs.Played.{Stage}
+use Rattle.determined.proofs.Determined.{Determined, Nothing-seen, none-seen}
+use Rattle.determined.proofs.OfInk.{prints-same}
+use Rattle.commands.proofs.good.Reads as good-reads
+use Rattle.commands.proofs.good.Kinds as good-kinds
+use Rattle.commands.proofs.bad.Reads as bad-reads
+use Rattle.commands.proofs.bad.Kinds as bad-kinds
+use Rattle.commands.proofs.fill_run.Reads as fill-run-reads
+use Rattle.commands.proofs.fill_run.Kinds as fill-run-kinds
+use Rattle.commands.proofs.run.Reads as commands-reads
+use Rattle.commands.proofs.run.Kinds as commands-kinds
+use Rattle.changes.proofs.run.Reads as changes-reads
+use Rattle.changes.proofs.run.Kinds as changes-kinds
+use Rattle.player.proofs.play.Reads as play-reads
+use Rattle.player.proofs.play.Kinds as play-kinds
+
+pub good-one : Determined _ good-kinds.ps good-kinds.r good-reads.Post Nothing-seen (λ _ _ _. none-seen)
+good-one κs a r₁ r₂ w₁ w₂ p q = (p ∙ sym q, refl)
+
+pub bad-one : Determined _ bad-kinds.ps bad-kinds.r bad-reads.Post Nothing-seen (λ _ _ _. none-seen)
+bad-one κs a r₁ r₂ w₁ w₂ p q = (p ∙ sym q, refl)
+
+pub fill-run-one : Determined _ fill-run-kinds.ps fill-run-kinds.r fill-run-reads.Post Bytes (λ _ _ w. view (w .0))
+fill-run-one κs a r₁ r₂ w₁ w₂ p q = (refl, p ∙ sym q)
+
+-- image, buffer and page
+record Rooms : Type 0 where
+  image : Bytes
+  buffer : Bytes
+  page : Bytes
+
+abbrev rooms : Bytes → Bytes → Bytes → Rooms
+rooms f g h = record { image = f; buffer = g; page = h }
+
+rooms-same : {f₁ f₂ g₁ g₂ h₁ h₂ : Bytes} → f₁ ≡ f₂ → g₁ ≡ g₂ → h₁ ≡ h₂ → rooms f₁ g₁ h₁ ≡ rooms f₂ g₂ h₂
+rooms-same p q r = rw (p, q, r)
+
+leaves-same : (o : Left) (s : Sheet) (r₁ r₂ : Said) (i₁ b₁ p₁ i₂ b₂ p₂ : List ℕ) → Leaves o s r₁ i₁ b₁ p₁ → Leaves o s r₂ i₂ b₂ p₂
+    → (r₁ ≡ r₂) × (rooms (view i₁) (view b₁) (view p₁) ≡ rooms (view i₂) (view b₂) (view p₂))
+leaves-same o s r₁ r₂ i₁ b₁ p₁ i₂ b₂ p₂ l m =
+    let e = prints-same (o .text) s (r₁ .ink) (r₂ .ink) p₁ p₂ (l .page) (m .page) in
+    (said-same r₁ r₂ (e .0) (l .good ∙ sym (m .good)), rooms-same (l .image ∙ sym (m .image)) (l .buffer ∙ sym (m .buffer)) (ap view (e .1)))
+  where
+    said-same : (r₁ r₂ : Said) → r₁ .ink ≡ r₂ .ink → r₁ .good ≡ r₂ .good → r₁ ≡ r₂
+    said-same r₁ r₂ p q = cc
+
+pub commands-one : Determined _ commands-kinds.ps commands-kinds.r commands-reads.Post Rooms
+    (λ _ _ w. rooms (view (w .1 .1 .0)) (view (w .1 .1 .1 .0)) (view (w .1 .1 .1 .1 .0)))
+commands-one κs a r₁ r₂ w₁ w₂ p q =
+    leaves-same _ _ r₁ r₂ (w₁ .1 .1 .0) (w₁ .1 .1 .1 .0) (w₁ .1 .1 .1 .1 .0) (w₂ .1 .1 .0) (w₂ .1 .1 .1 .0) (w₂ .1 .1 .1 .1 .0) p q
+
+pub changes-one : Determined _ changes-kinds.ps changes-kinds.r changes-reads.Post Rooms
+    (λ _ _ w. rooms (view (w .1 .1 .0)) (view (w .1 .1 .1 .0)) (view (w .1 .1 .1 .1 .0)))
+changes-one κs a r₁ r₂ w₁ w₂ p q =
+    leaves-same _ _ r₁ r₂ (w₁ .1 .1 .0) (w₁ .1 .1 .1 .0) (w₁ .1 .1 .1 .1 .0) (w₂ .1 .1 .0) (w₂ .1 .1 .1 .0) (w₂ .1 .1 .1 .1 .0) p q
+
+pub play-one : Determined _ play-kinds.ps play-kinds.r play-reads.Post Rooms (λ _ _ w. rooms (view (w .1 .0)) (view (w .1 .1 .0)) (view (w .1 .1 .1 .0)))
+play-one κs a r₁ r₂ w₁ w₂ p q = (refl, rooms-same (p .image ∙ sym (q .image)) (p .buffer ∙ sym (q .buffer)) (p .page ∙ sym (q .page)))
