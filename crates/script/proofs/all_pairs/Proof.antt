@@ -1,0 +1,62 @@
+-- `script::all_pairs` meets its contract: the pairs left decide. Assumes nothing.
+use mathlib.Core.Path.{_≡_, refl, sym, ap, _∙_}
+use Prim.Native.Nat.{ℕ, suc, _+_, _-_, _*_, _^_, _≤_, _<_}
+use native.Mathlib.Omega.{arith}
+use lib.ListN.{length, getD, length-set}
+use Rattle.model.specs.Bytes.{view, put, paste, from}
+use Rattle.script.specs.Fields.{placeOf, endAt, decimalFrom, allPairs, pairs, allPlain, readFields}
+use borrow.Author.Needs.{needs}
+use Rattle.script.proofs.all_pairs.Statement.{statement}
+use Rattle.script.proofs.all_pairs.Tie as tie
+use Rattle.script.proofs.all_pairs.Reads as reads
+use Rattle.script.proofs.all_pairs.Lts as lts
+use Rattle.script.proofs.pair_value.Reads as pair-value-reads
+
+abbrev Inv-loop : tie.InvT-loop
+Inv-loop line start count seen₀ seen = (seen ≤ count) × (allPairs (view line) (start + 2 * seen) (count - seen) ≡ allPairs (view line) start count)
+
+abbrev μ-loop : tie.MeasureT-loop
+μ-loop line start count seen₀ seen = count - seen
+
+loop-holds : tie.Need-loop-holds Inv-loop μ-loop
+loop-holds c = search needs
+
+mul-pair-value : tie.Need-mul-pair-value Inv-loop μ-loop
+mul-pair-value c = search needs
+
+add-pair-value : tie.Need-add-pair-value Inv-loop μ-loop
+add-pair-value c = search needs
+
+pair-value-requires : tie.Need-pair-value-requires Inv-loop μ-loop
+pair-value-requires c κs = search needs
+
+returns : tie.Need-returns Inv-loop μ-loop
+returns c = ?
+
+add-seen : tie.Need-add-seen Inv-loop μ-loop
+add-seen c = search needs
+
+loop-less : tie.Need-loop-less Inv-loop μ-loop
+loop-less c = search needs
+
+loop-again : tie.Need-loop-again Inv-loop μ-loop
+loop-again c = ?
+
+returns-2 : tie.Need-returns-2 Inv-loop μ-loop
+returns-2 c = ?
+
+pub all-pairs-spec : {M : Type 1} → statement M
+all-pairs-spec =
+    tie.close
+    (tie.spec
+    Inv-loop
+    μ-loop
+    loop-holds
+    mul-pair-value
+    add-pair-value
+    pair-value-requires
+    returns
+    add-seen
+    loop-less
+    loop-again
+    returns-2)

@@ -1,0 +1,61 @@
+-- `script::all_plain` meets its contract: the bytes left decide. Assumes nothing.
+use mathlib.Core.Path.{_≡_, refl, sym, ap, _∙_}
+use Prim.Native.Nat.{ℕ, suc, _+_, _-_, _*_, _^_, _≤_, _<_}
+use native.Mathlib.Omega.{arith}
+use lib.ListN.{length, getD, length-set}
+use Rattle.model.specs.Bytes.{view, put, paste, from}
+use Rattle.script.specs.Fields.{placeOf, endAt, decimalFrom, allPairs, pairs, allPlain, readFields}
+use borrow.Author.Needs.{needs}
+use Rattle.script.proofs.all_plain.Statement.{statement}
+use Rattle.script.proofs.all_plain.Tie as tie
+use Rattle.script.proofs.all_plain.Reads as reads
+use Rattle.script.proofs.all_plain.Lts as lts
+
+abbrev Inv-loop : tie.InvT-loop
+Inv-loop line start end at₀ at = (start ≤ at) × (at ≤ end) × (allPlain (view line) at (end - at) ≡ allPlain (view line) start (end - start))
+
+abbrev μ-loop : tie.MeasureT-loop
+μ-loop line start end at₀ at = end - at
+
+loop-holds : tie.Need-loop-holds Inv-loop μ-loop
+loop-holds c = search needs
+
+shared-slice-read-if1 : tie.Need-shared-slice-read-if1 Inv-loop μ-loop
+shared-slice-read-if1 c = search needs
+
+returns : tie.Need-returns Inv-loop μ-loop
+returns c = ?
+
+shared-slice-read-if2 : tie.Need-shared-slice-read-if2 Inv-loop μ-loop
+shared-slice-read-if2 c = search needs
+
+returns-2 : tie.Need-returns-2 Inv-loop μ-loop
+returns-2 c = ?
+
+add-at : tie.Need-add-at Inv-loop μ-loop
+add-at c = search needs
+
+loop-less : tie.Need-loop-less Inv-loop μ-loop
+loop-less c = search needs
+
+loop-again : tie.Need-loop-again Inv-loop μ-loop
+loop-again c = ?
+
+returns-3 : tie.Need-returns-3 Inv-loop μ-loop
+returns-3 c = ?
+
+pub all-plain-spec : {M : Type 1} → statement M
+all-plain-spec =
+    tie.close
+    (tie.spec
+    Inv-loop
+    μ-loop
+    loop-holds
+    shared-slice-read-if1
+    returns
+    shared-slice-read-if2
+    returns-2
+    add-at
+    loop-less
+    loop-again
+    returns-3)

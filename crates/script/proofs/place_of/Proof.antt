@@ -1,0 +1,53 @@
+-- `script::place_of` meets its contract: the place is that from each byte passed on. Assumes nothing.
+use mathlib.Core.Path.{_≡_, refl, sym, ap, _∙_}
+use Prim.Native.Nat.{ℕ, suc, _+_, _-_, _*_, _^_, _≤_, _<_}
+use native.Mathlib.Omega.{arith}
+use lib.ListN.{length, getD, length-set}
+use Rattle.model.specs.Bytes.{view, put, paste, from}
+use Rattle.script.specs.Fields.{placeOf, endAt, decimalFrom, allPairs, pairs, allPlain, readFields}
+use borrow.Author.Needs.{needs}
+use Rattle.script.proofs.place_of.Statement.{statement}
+use Rattle.script.proofs.place_of.Tie as tie
+use Rattle.script.proofs.place_of.Reads as reads
+use Rattle.script.proofs.place_of.Lts as lts
+
+abbrev Inv-loop : tie.InvT-loop
+Inv-loop s from byte at₀ at = (from ≤ at) × (at ≤ length s) × (placeOf (view s) byte at (length s - at) ≡ placeOf (view s) byte from (length s - from))
+
+abbrev μ-loop : tie.MeasureT-loop
+μ-loop s from byte at₀ at = length s - at
+
+loop-holds : tie.Need-loop-holds Inv-loop μ-loop
+loop-holds c = search needs
+
+shared-slice-read-if1 : tie.Need-shared-slice-read-if1 Inv-loop μ-loop
+shared-slice-read-if1 c = search needs
+
+returns : tie.Need-returns Inv-loop μ-loop
+returns c = ?
+
+add-at : tie.Need-add-at Inv-loop μ-loop
+add-at c = search needs
+
+loop-less : tie.Need-loop-less Inv-loop μ-loop
+loop-less c = search needs
+
+loop-again : tie.Need-loop-again Inv-loop μ-loop
+loop-again c = ?
+
+returns-2 : tie.Need-returns-2 Inv-loop μ-loop
+returns-2 c = ?
+
+pub place-of-spec : {M : Type 1} → statement M
+place-of-spec =
+    tie.close
+    (tie.spec
+    Inv-loop
+    μ-loop
+    loop-holds
+    shared-slice-read-if1
+    returns
+    add-at
+    loop-less
+    loop-again
+    returns-2)

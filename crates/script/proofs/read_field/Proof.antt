@@ -1,0 +1,64 @@
+use borrow.Author.Needs.{needs}
+use Rattle.script.proofs.read_field.Statement.{statement}
+use Rattle.script.proofs.read_field.Tie as tie
+use Rattle.script.proofs.read_field.Reads as reads
+use Rattle.script.proofs.read_field.Lts as lts
+use Rattle.script.proofs.place_of.Reads as place-of-reads
+use Rattle.script.proofs.take_field.Reads as take-field-reads
+
+returns : tie.Need-returns
+returns c = ?
+
+add-start : tie.Need-add-start
+add-start c = search needs
+
+place-of-requires : tie.Need-place-of-requires
+place-of-requires c κs = search needs
+
+take-field-requires : tie.Need-take-field-requires
+take-field-requires c κs = search needs
+
+same-length : tie.Need-same-length
+same-length c = search needs
+
+same-length-2 : tie.Need-same-length-2
+same-length-2 c = search needs
+
+returns-2 : tie.Need-returns-2
+returns-2 c = ?
+
+mul-values : tie.Need-mul-values
+mul-values c = search needs
+
+slice-write-values : tie.Need-slice-write-values
+slice-write-values c = search needs
+
+same-length-3 : tie.Need-same-length-3
+same-length-3 c = search needs
+
+same-length-4 : tie.Need-same-length-4
+same-length-4 c = search needs
+
+same-length-5 : tie.Need-same-length-5
+same-length-5 c = search needs
+
+returns-3 : tie.Need-returns-3
+returns-3 c = ?
+
+pub read-field-spec : {M : Type 1} → statement M
+read-field-spec =
+    tie.close
+    (tie.spec
+    returns
+    add-start
+    place-of-requires
+    take-field-requires
+    same-length
+    same-length-2
+    returns-2
+    mul-values
+    slice-write-values
+    same-length-3
+    same-length-4
+    same-length-5
+    returns-3)

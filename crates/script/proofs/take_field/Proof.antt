@@ -1,0 +1,79 @@
+use borrow.Author.Needs.{needs}
+use Rattle.script.proofs.take_field.Statement.{statement}
+use Rattle.script.proofs.take_field.Tie as tie
+use Rattle.script.proofs.take_field.Reads as reads
+use Rattle.script.proofs.take_field.Lts as lts
+use Rattle.script.proofs.byte_value.Reads as byte-value-reads
+use Rattle.script.proofs.half_value.Reads as half-value-reads
+use Rattle.script.proofs.number_value.Reads as number-value-reads
+use Rattle.script.proofs.take_data.Reads as take-data-reads
+use Rattle.script.proofs.take_text.Reads as take-text-reads
+
+number-value-requires : tie.Need-number-value-requires
+number-value-requires c κs = search needs
+
+half-value-requires : tie.Need-half-value-requires
+half-value-requires c κs = search needs
+
+byte-value-requires : tie.Need-byte-value-requires
+byte-value-requires c κs = search needs
+
+take-data-requires : tie.Need-take-data-requires
+take-data-requires c κs = search needs
+
+take-text-requires : tie.Need-take-text-requires
+take-text-requires c κs = search needs
+
+take-text-requires-2 : tie.Need-take-text-requires-2
+take-text-requires-2 c κs = search needs
+
+returns : tie.Need-returns
+returns c = ?
+
+returns-2 : tie.Need-returns-2
+returns-2 c = ?
+
+returns-3 : tie.Need-returns-3
+returns-3 c = ?
+
+same-length : tie.Need-same-length
+same-length c = search needs
+
+returns-4 : tie.Need-returns-4
+returns-4 c = ?
+
+same-length-2 : tie.Need-same-length-2
+same-length-2 c = search needs
+
+returns-5 : tie.Need-returns-5
+returns-5 c = ?
+
+same-length-3 : tie.Need-same-length-3
+same-length-3 c = search needs
+
+returns-6 : tie.Need-returns-6
+returns-6 c = ?
+
+returns-7 : tie.Need-returns-7
+returns-7 c = ?
+
+pub take-field-spec : {M : Type 1} → statement M
+take-field-spec =
+    tie.close
+    (tie.spec
+    number-value-requires
+    half-value-requires
+    byte-value-requires
+    take-data-requires
+    take-text-requires
+    take-text-requires-2
+    returns
+    returns-2
+    returns-3
+    same-length
+    returns-4
+    same-length-2
+    returns-5
+    same-length-3
+    returns-6
+    returns-7)
