@@ -1,15 +1,16 @@
 -- One step of each definition of a field, case by case, for the functions that read one. Assumes nothing.
 use mathlib.Core.Path.{_≡_, refl, sym, ap, _∙_}
 use mathlib.Core.Bool.{Bool, true, false, false≢true}
-use Prim.Native.Nat.{ℕ, zero, suc, _+_, _-_, _*_, _/_, _%_, _≤_, _<_}
-use lib.Dec.{leb}
+use Prim.Native.Nat.{ℕ, zero, suc, _+_, _-_, _*_, _/_, _%_, _^_, _≤_, _<_}
+use lib.Dec.{eqb, leb}
 use native.Mathlib.Omega.{arith}
+use native.Mathlib.Nat.{one-le-pow, pow-le-pow-right}
 use borrow.Author.Tests.{leb-true, leb-false, eq-eqb, ne-eqb, le-leb, lt-leb}
-use Rattle.model.specs.Bytes.{Bytes, from, _and_, within}
+use Rattle.model.specs.Bytes.{Bytes, paste, from, equalBytes, _and_, within}
 use Rattle.model.proofs.TestLaws.{and-off}
-use Rattle.model.proofs.ByteLaws.{at-or-off}
+use Rattle.model.proofs.ByteLaws.{at-or-off, paste-none}
 use Rattle.model.proofs.Laws.Spelling.{within-in}
-use Rattle.script.specs.Fields.{largest, bad, textMost, equals, placeOf, digitValue, decimalFrom, numberValue, halfValue, pairValue, byteValue, allPairs, pairs, pairsSize, allPlain, plainSize, isDash, dataSize, textSize, textBytes, sized}
+use Rattle.script.specs.Fields.{largest, bad, textMost, equals, placeOf, isWord, digitValue, decimalFrom, numberValue, halfValue, pairValue, byteValue, allPairs, pairs, pairsSize, allPlain, plainSize, isDash, dataSize, textSize, textBytes, sized}
 
 -- a number is at most another, or above it
 pub most-or-more : {P : Type 0} (a b : ℕ) → (a ≤ b → P) → (b < a → P) → P
@@ -41,6 +42,20 @@ module _ (s : Bytes) (c a : ℕ) where
   unfolding placeOf
   place-none = refl
 
+-- a line's word
+module _ (s : Bytes) (n e : ℕ) (w : Bytes) (k : ℕ) where
+  pub word-other : (e ≡ k → ⊥) → isWord s n e w k ≡ false
+  unfolding isWord _and_
+  word-other h = rw (ne-eqb _ _ h)
+
+  pub word-past : e ≡ k → n < e → isWord s n e w k ≡ false
+  unfolding isWord _and_
+  word-past p h = rw (eq-eqb _ _ p, lt-leb _ _ h)
+
+  pub word-by : e ≡ k → e ≤ n → isWord s n e w k ≡ equalBytes s 0 w 0 e
+  unfolding isWord _and_
+  word-by p h = rw (eq-eqb _ _ p, le-leb _ _ h)
+
 -- a hex digit
 module _ (c : ℕ) where
   pub digit-low : 48 ≤ c → c ≤ 57 → digitValue c ≡ c - 48
@@ -62,18 +77,28 @@ module _ (c : ℕ) where
 
 -- a number
 module _ (s : Bytes) (a x : ℕ) where
-  pub decimal-more : (k m : ℕ) → k ≡ suc m → digitValue (s a) ≤ 9
-      → decimalFrom s a k x ≡ decimalFrom s (a + 1) m (10 * x + digitValue (s a))
+  pub decimal-more : (k m d : ℕ) → k ≡ suc m → d ≡ digitValue (s a) → d ≤ 9
+      → decimalFrom s a k x ≡ decimalFrom s (a + 1) m (10 * x + d)
   unfolding decimalFrom
-  decimal-more k m e h = rw (e, le-leb _ _ h, decimalFrom)
+  decimal-more k m d e v h = let l : digitValue (s a) ≤ 9 = omega arith in rw (e, v, le-leb _ _ l, decimalFrom)
 
-  pub decimal-not : (k m : ℕ) → k ≡ suc m → 9 < digitValue (s a) → decimalFrom s a k x ≡ bad
+  pub decimal-not : (k m d : ℕ) → k ≡ suc m → d ≡ digitValue (s a) → 9 < d → decimalFrom s a k x ≡ bad
   unfolding decimalFrom
-  decimal-not k m e h = rw (e, lt-leb _ _ h, decimalFrom)
+  decimal-not k m d e v h = let l : 9 < digitValue (s a) = omega arith in rw (e, lt-leb _ _ l, decimalFrom)
 
   pub decimal-none : decimalFrom s a 0 x ≡ x
   unfolding decimalFrom
   decimal-none = refl
+
+-- k digits say less than a power of ten
+pub tens-none : (k : ℕ) → 0 < 10 ^ k
+tens-none k = one-le-pow k 10 (omega arith)
+
+pub tens-more : (v d k m : ℕ) → m ≡ suc k → v < 10 ^ k → d ≤ 9 → 10 * v + d < 10 ^ m
+tens-more v d k m e p q = rw e (omega arith)
+
+pub tens-most : (v k : ℕ) → v < 10 ^ k → k ≤ 9 → v < 1000000000
+tens-most v k p q = let u : 10 ^ k ≤ 10 ^ 9 = pow-le-pow-right (omega arith) q in omega arith
 
 module _ (s : Bytes) (a k : ℕ) where
   pub number-in : 1 ≤ k → k ≤ 10 → numberValue s a k ≡ decimalFrom s a k 0
@@ -191,17 +216,13 @@ module _ (s : Bytes) (a k : ℕ) where
   unfolding plainSize _and_
   plain-good p e = rw (le-leb _ _ p, e, plainSize)
 
-  pub dash-is : k ≡ 1 → s a ≡ 45 → isDash s a k ≡ true
+  pub dash-one : k ≡ 1 → isDash s a k ≡ eqb (s a) 45
   unfolding isDash _and_
-  dash-is p q = rw (eq-eqb _ _ p, eq-eqb _ _ q)
+  dash-one e = rw (eq-eqb _ _ e)
 
   pub dash-longer : (k ≡ 1 → ⊥) → isDash s a k ≡ false
   unfolding isDash _and_
   dash-longer n = rw (ne-eqb _ _ n)
-
-  pub dash-other : (s a ≡ 45 → ⊥) → isDash s a k ≡ false
-  unfolding isDash
-  dash-other n = rw (ne-eqb _ _ n, and-off)
 
 -- data, and a text
 module _ (s : Bytes) (a k most : ℕ) where
@@ -243,10 +264,18 @@ module _ (s : Bytes) (a : ℕ) where
   unfolding textBytes
   bytes-plain e = rw (ne-eqb _ _ e, textBytes)
 
-pub sized-bad : sized bad ≡ 0
-unfolding sized
-sized-bad = refl
-
+-- what a size puts down
 pub sized-good : (x : ℕ) → x ≤ largest → sized x ≡ x
 unfolding sized
 sized-good x p = rw (le-leb _ _ p, sized)
+
+pub sized-more : (x : ℕ) → largest < x → sized x ≡ 0
+unfolding sized
+sized-more x p = rw (lt-leb _ _ p, sized)
+
+-- a bad size, or none, puts nothing down
+pub paste-bad : (f : Bytes) (a x : ℕ) (g : Bytes) → largest < x → f ≡ paste f a (sized x) g
+paste-bad f a x g p = rw (sized-more x p) (sym (paste-none f a g))
+
+pub paste-empty : (f : Bytes) (a x : ℕ) (g : Bytes) → x ≡ 0 → f ≡ paste f a (sized x) g
+paste-empty f a x g e = rw (e, sized-good 0 (omega arith)) (sym (paste-none f a g))

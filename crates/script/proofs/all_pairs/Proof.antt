@@ -1,10 +1,10 @@
 -- `script::all_pairs` meets its contract: the pairs left decide. Assumes nothing.
-use mathlib.Core.Path.{_≡_, refl, sym, ap, _∙_}
-use Prim.Native.Nat.{ℕ, suc, _+_, _-_, _*_, _^_, _≤_, _<_}
+use mathlib.Core.Path.{_≡_, refl, sym, _∙_}
+use Prim.Native.Nat.{suc, _+_, _-_, _*_, _≤_, _<_}
 use native.Mathlib.Omega.{arith}
-use lib.ListN.{length, getD, length-set}
-use Rattle.model.specs.Bytes.{view, put, paste, from}
-use Rattle.script.specs.Fields.{placeOf, endAt, decimalFrom, allPairs, pairs, allPlain, readFields}
+use Rattle.model.specs.Bytes.{view}
+use Rattle.script.specs.Fields.{largest, pairValue, allPairs}
+use Rattle.script.proofs.FieldLaws.{pairs-more, pairs-not, pairs-none}
 use borrow.Author.Needs.{needs}
 use Rattle.script.proofs.all_pairs.Statement.{statement}
 use Rattle.script.proofs.all_pairs.Tie as tie
@@ -19,7 +19,11 @@ abbrev μ-loop : tie.MeasureT-loop
 μ-loop line start count seen₀ seen = count - seen
 
 loop-holds : tie.Need-loop-holds Inv-loop μ-loop
-loop-holds c = search needs
+loop-holds c =
+    let a = c .before .args in
+    let u : a .start + 2 * 0 ≡ a .start = omega arith in
+    let v : a .count - 0 ≡ a .count = omega arith in
+    (omega arith, rw (u, v))
 
 mul-pair-value : tie.Need-mul-pair-value Inv-loop μ-loop
 mul-pair-value c = search needs
@@ -31,7 +35,11 @@ pair-value-requires : tie.Need-pair-value-requires Inv-loop μ-loop
 pair-value-requires c κs = search needs
 
 returns : tie.Need-returns Inv-loop μ-loop
-returns c = ?
+returns c =
+    let l = c .before .before .before .loop in
+    let a = c .before .before .before .before .before .args in
+    let e : a .count - l .seen ≡ suc (a .count - (l .seen + 1)) = omega arith in
+    sym (pairs-not (view (a .line .now)) (a .start + 2 * l .seen) _ _ e (omega arith)) ∙ l .inv .1
 
 add-seen : tie.Need-add-seen Inv-loop μ-loop
 add-seen c = search needs
@@ -40,10 +48,19 @@ loop-less : tie.Need-loop-less Inv-loop μ-loop
 loop-less c = search needs
 
 loop-again : tie.Need-loop-again Inv-loop μ-loop
-loop-again c = ?
+loop-again c =
+    let l = c .before .before .before .loop in
+    let a = c .before .before .before .before .before .args in
+    let e : a .count - l .seen ≡ suc (a .count - (l .seen + 1)) = omega arith in
+    let u : a .start + 2 * (l .seen + 1) ≡ a .start + 2 * l .seen + 2 = omega arith in
+    (omega arith, rw u (sym (pairs-more (view (a .line .now)) (a .start + 2 * l .seen) _ _ e (omega arith)) ∙ l .inv .1))
 
 returns-2 : tie.Need-returns-2 Inv-loop μ-loop
-returns-2 c = ?
+returns-2 c =
+    let l = c .before .loop in
+    let a = c .before .before .before .args in
+    let e : a .count - l .seen ≡ 0 = omega arith in
+    sym (rw e (pairs-none (view (a .line .now)) (a .start + 2 * l .seen))) ∙ l .inv .1
 
 pub all-pairs-spec : {M : Type 1} → statement M
 all-pairs-spec =

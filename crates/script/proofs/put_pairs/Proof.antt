@@ -1,11 +1,12 @@
 -- `script::put_pairs` meets its contract: the bytes of the pairs passed are pasted. Assumes nothing.
 use mathlib.Core.Path.{_≡_, refl, sym, ap, _∙_}
-use Prim.Native.Nat.{ℕ, suc, _+_, _-_, _*_, _^_, _≤_, _<_}
+use Prim.Native.Nat.{_+_, _-_, _≤_}
 use native.Mathlib.Omega.{arith}
-use lib.ListN.{length, getD, length-set}
-use Rattle.model.specs.Bytes.{view, put, paste, from}
+use lib.ListN.{length, length-set}
+use Rattle.model.specs.Bytes.{view, put, paste}
 use Rattle.model.proofs.ByteLaws.{view-set, paste-none, paste-more}
-use Rattle.script.specs.Fields.{placeOf, endAt, decimalFrom, allPairs, pairs, allPlain, readFields}
+use Rattle.script.specs.Fields.{pairs}
+use Rattle.script.proofs.FieldLaws.{pairs-at}
 use borrow.Author.Needs.{needs}
 use Rattle.script.proofs.put_pairs.Statement.{statement}
 use Rattle.script.proofs.put_pairs.Tie as tie
@@ -20,7 +21,7 @@ abbrev μ-loop : tie.MeasureT-loop
 μ-loop line start count room₀ to done₀ room done = count - done
 
 loop-holds : tie.Need-loop-holds Inv-loop μ-loop
-loop-holds c = search needs
+loop-holds c = (search needs, refl, sym (paste-none _ _ _))
 
 mul-pair-value : tie.Need-mul-pair-value Inv-loop μ-loop
 mul-pair-value c = search needs
@@ -32,7 +33,9 @@ pair-value-requires : tie.Need-pair-value-requires Inv-loop μ-loop
 pair-value-requires c κs = search needs
 
 cast-room : tie.Need-cast-room Inv-loop μ-loop
-cast-room c = search needs
+cast-room c =
+    let a = c .before .before .before .before .before .args in
+    omega (arith, pairs-at (view (a .line .now)) (a .start) (a .count) (c .before .before .before .before .before .pre .2) (c .before .before .loop .done) (omega arith))
 
 add-room : tie.Need-add-room Inv-loop μ-loop
 add-room c = search needs
@@ -47,13 +50,28 @@ loop-less : tie.Need-loop-less Inv-loop μ-loop
 loop-less c = search needs
 
 loop-again : tie.Need-loop-again Inv-loop μ-loop
-loop-again c = ?
+loop-again c =
+    let l = c .before .before .loop in
+    let a = c .before .before .before .before .before .args in
+    let at = a .to + l .done in
+    let p = pairs (view (a .line .now)) (a .start) in (
+      omega arith,
+      simp length-set (omega arith),
+      view-set (l .room) at (c .pair-value .result) (omega arith)
+          ∙ ap (λ f. put f at (c .pair-value .result)) (l .inv .2)
+          ∙ ap (put (paste (view (a .room .now)) (a .to) (l .done) p) at) (c .pair-value .ensures)
+          ∙ paste-more (view (a .room .now)) (a .to) p (l .done),
+    )
 
 same-length : tie.Need-same-length Inv-loop μ-loop
 same-length c = search needs
 
 returns : tie.Need-returns Inv-loop μ-loop
-returns c = ?
+returns c =
+    let l = c .before .loop in
+    let a = c .before .before .before .before .args in
+    let e : l .done ≡ a .count = omega arith in
+    l .inv .2 ∙ ap (λ k. paste (view (a .room .now)) (a .to) k (pairs (view (a .line .now)) (a .start))) e
 
 pub put-pairs-spec : {M : Type 1} → statement M
 put-pairs-spec =
