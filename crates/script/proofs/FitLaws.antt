@@ -3,7 +3,8 @@ use mathlib.Core.Path.{_≡_, refl, sym, ap, _∙_}
 use mathlib.Core.Bool.{Bool, true, false}
 use Prim.Native.Nat.{ℕ, zero, suc, _+_, _-_, _/_, _%_, _≤_, _<_}
 use native.Mathlib.Omega.{arith}
-use borrow.Author.Tests.{ne-eqb}
+use lib.Dec.{eqb}
+use borrow.Author.Tests.{eqb-true, ne-eqb}
 use Rattle.model.specs.Bytes.{Bytes, put}
 use Rattle.model.specs.Catalog.{space′}
 use Rattle.model.proofs.ByteLaws.{at-or-off, put-at, put-off}
@@ -57,7 +58,7 @@ text-most s a k h =
 -- the forms that have a number's largest value
 form-rest : (most form : ℕ) → (form ≡ 72 → ⊥) → (form ≡ 66 → ⊥) → (form ≡ 68 → ⊥) → (form ≡ 84 → ⊥) → (form ≡ 83 → ⊥)
     → formMost most form ≡ largest
-form-rest most form h b d t u = rw (ne-eqb form 72 h, ne-eqb form 66 b, ne-eqb form 68 d, ne-eqb form 84 t, ne-eqb form 83 u)
+form-rest most form h b d t u = rw (ne-eqb form 72 h, ne-eqb form 66 b, ne-eqb form 68 d, ne-eqb form 84 t, ne-eqb form 83 u, formMost)
 
 pub field-most : (s : Bytes) (a k most form : ℕ) → fieldValue s a k most form ≤ largest → fieldValue s a k most form ≤ formMost most form
 unfolding fieldValue
@@ -82,7 +83,7 @@ module _ (s : Bytes) (n most : ℕ) where
       most-or-more n (f .at)
       (λ p. let g = read-past s n most form i f p in off (ap (λ h. h .at) (sym g)) (ap (λ h. h .values) (sym g)))
       (λ p. most-or-more v largest
-      (λ q. let g = read-good s n most form i f e v room buffer (refl, (refl, refl)) p refl q in
+      (λ q. let g = read-good s n most form i f e v room buffer (refl, (refl, refl)) p refl (put (f .values) i v) refl q in
       on v (field-most s a (e - a) most form q) (ap (λ h. h .values) (sym g)))
       (λ q. let g = read-bad s n most form i f e v room buffer (refl, (refl, refl)) p refl q in
       off (ap (λ h. h .at) (sym g)) (ap (λ h. h .values) (sym g))))
@@ -117,6 +118,6 @@ module _ (s : Bytes) (n most : ℕ) where
         (λ off. fits-from k (i + 1) g l e j (omega (arith, off)) (omega arith)))
 
     -- where the line of n bytes ends behind the last field, each value fits its form
-    pub fits : (k : ℕ) (f : Fields) → n < nowhere → readFields s n most forms 0 k f .at ≡ n
-        → Fits most forms k (readFields s n most forms 0 k f .values)
-    fits k f l e j p = fits-from k 0 f l e j (omega arith) (omega arith)
+    pub fits : (k : ℕ) (f g : Fields) → n < nowhere → g ≡ readFields s n most forms 0 k f → eqb (g .at) n ≡ true → Fits most forms k (g .values)
+    fits k f g l e t j p =
+        rw e (fits-from k 0 f l (ap (λ h. h .at) (sym e) ∙ eqb-true _ _ t) j (omega arith) (omega arith))

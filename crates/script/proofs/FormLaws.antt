@@ -28,10 +28,10 @@ module _ (s : Bytes) (a k most : ℕ) (room buffer : Bytes) (form v : ℕ) where
   unfolding fieldValue fieldRoom fieldBuffer
   taken-byte e p = rw e (p, (refl, refl))
 
-  pub taken-data : (data : Bytes) → form ≡ 68 → v ≡ dataSize s a k most → data ≡ putData s a k most buffer
-      → Taken s a k most form room buffer v room data
+  pub taken-data : (bytes : Bytes) → form ≡ 68 → v ≡ dataSize s a k most → bytes ≡ putData s a k most buffer
+      → Taken s a k most form room buffer v room bytes
   unfolding fieldValue fieldRoom fieldBuffer
-  taken-data data e p q = rw e (p, (refl, q))
+  taken-data bytes e p q = rw e (p, (refl, q))
 
   pub taken-text : (text : Bytes) → form ≡ 84 → v ≡ textSize s a k → text ≡ putText s a k room 0
       → Taken s a k most form room buffer v text buffer
@@ -98,11 +98,11 @@ module _ (s : Bytes) (n most form i : ℕ) (f : Fields) where
   read-in p = rw (lt-ltb _ _ p, readField)
 
   module _ (e v : ℕ) (room buffer : Bytes) (t : Taken s (f .at + 1) (e - (f .at + 1)) most form (f .room) (f .buffer) v room buffer) where
-    at-good : v ≤ largest → found e (put (f .values) i v) room buffer ≡ fieldRead s n most form i f e
+    at-good : (values : Bytes) → values ≡ put (f .values) i v → v ≤ largest → found e values room buffer ≡ fieldRead s n most form i f e
     unfolding fieldRead
-    at-good p =
+    at-good values w p =
         let q : fieldValue s (f .at + 1) (e - (f .at + 1)) most form ≤ largest = omega (arith, t .0) in
-        rw (t .0, t .1 .0, t .1 .1, le-leb _ _ q, fieldRead)
+        rw (w, t .0, t .1 .0, t .1 .1, le-leb _ _ q, fieldRead)
 
     at-bad : largest < v → found nowhere (f .values) room buffer ≡ fieldRead s n most form i f e
     unfolding fieldRead
@@ -114,8 +114,8 @@ module _ (s : Bytes) (n most form i : ℕ) (f : Fields) where
         rw (r, b, lt-leb _ _ q, fieldRead)
 
     module _ (p : f .at < n) (end : e ≡ endAt s n space′ (f .at + 1)) where
-      pub read-good : v ≤ largest → found e (put (f .values) i v) room buffer ≡ readField s n most form i f
-      read-good q = at-good q ∙ ap (fieldRead s n most form i f) end ∙ read-in p
+      pub read-good : (values : Bytes) → values ≡ put (f .values) i v → v ≤ largest → found e values room buffer ≡ readField s n most form i f
+      read-good values w q = at-good values w q ∙ ap (fieldRead s n most form i f) end ∙ read-in p
 
       pub read-bad : largest < v → found nowhere (f .values) room buffer ≡ readField s n most form i f
       read-bad q = at-bad q ∙ ap (fieldRead s n most form i f) end ∙ read-in p

@@ -1,3 +1,9 @@
+-- `script::read_field` meets its contract. Assumes nothing.
+use native.Mathlib.Omega.{arith}
+use lib.ListN.{length}
+use Rattle.model.specs.Bytes.{view}
+use Rattle.model.proofs.ByteLaws.{view-set}
+use Rattle.script.proofs.FormLaws.{found, read-past, read-good, read-bad}
 use borrow.Author.Needs.{needs}
 use Rattle.script.proofs.read_field.Statement.{statement}
 use Rattle.script.proofs.read_field.Tie as tie
@@ -7,7 +13,7 @@ use Rattle.script.proofs.place_of.Reads as place-of-reads
 use Rattle.script.proofs.take_field.Reads as take-field-reads
 
 returns : tie.Need-returns
-returns c = ?
+returns c = let a = c .before .before .before .before .before .args in read-past (view (a .line .now)) (length (a .line .now)) (length (a .buffer .now)) (a .form) (a .i) (found (a .at) (view (a .values .now)) (view (a .room .now)) (view (a .buffer .now))) (omega arith)
 
 add-start : tie.Need-add-start
 add-start c = search needs
@@ -25,7 +31,10 @@ same-length-2 : tie.Need-same-length-2
 same-length-2 c = search needs
 
 returns-2 : tie.Need-returns-2
-returns-2 c = ?
+returns-2 c =
+    let a = c .before .before .before .before .before .before .before .before .before .before .before .before .before .before .args in
+    let t = c .before .before .before .before .before .take-field in
+    read-bad (view (a .line .now)) (length (a .line .now)) (length (a .buffer .now)) (a .form) (a .i) (found (a .at) (view (a .values .now)) (view (a .room .now)) (view (a .buffer .now))) _ (t .result) _ _ (t .ensures) (omega arith) (c .before .before .before .before .before .before .before .before .place-of .ensures .0) (c .if2 .taken)
 
 mul-values : tie.Need-mul-values
 mul-values c = search needs
@@ -43,7 +52,11 @@ same-length-5 : tie.Need-same-length-5
 same-length-5 c = search needs
 
 returns-3 : tie.Need-returns-3
-returns-3 c = ?
+returns-3 c =
+    let a = c .before .before .before .before .before .before .before .before .before .before .before .before .before .before .args in
+    let t = c .before .before .before .before .before .take-field in
+    let w = view-set (a .values .now) (a .i) (t .result) (omega arith) in
+    read-good (view (a .line .now)) (length (a .line .now)) (length (a .buffer .now)) (a .form) (a .i) (found (a .at) (view (a .values .now)) (view (a .room .now)) (view (a .buffer .now))) _ (t .result) _ _ (t .ensures) (omega arith) (c .before .before .before .before .before .before .before .before .place-of .ensures .0) _ w (c .if2 .left)
 
 pub read-field-spec : {M : Type 1} → statement M
 read-field-spec =
