@@ -1,10 +1,9 @@
 -- A field of any form, and one field after the other: what reading leaves, case by case. Assumes nothing.
 use mathlib.Core.Path.{_≡_, refl, sym, ap, _∙_}
-use mathlib.Core.List.{List}
-use Prim.Native.Nat.{ℕ, zero, suc, _+_, _-_, _≤_, _<_}
+use Prim.Native.Nat.{ℕ, suc, _+_, _-_, _≤_, _<_}
 use native.Mathlib.Omega.{arith}
 use borrow.Author.Tests.{ne-eqb, le-leb, lt-leb, lt-ltb, le-ltb}
-use Rattle.model.specs.Bytes.{Bytes, view, put}
+use Rattle.model.specs.Bytes.{Bytes, put}
 use Rattle.model.specs.Catalog.{space′}
 use Rattle.model.proofs.ByteLaws.{at-or-off}
 use Rattle.script.specs.Fields.{largest, bad, textMost, endAt, numberValue, halfValue, byteValue, pairs, dataSize, textSize, textBytes, putText, putData, fieldValue, fieldRoom, fieldBuffer, Fields, nowhere, fieldRead, readField, readFields}

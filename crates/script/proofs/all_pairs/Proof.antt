@@ -1,16 +1,13 @@
 -- `script::all_pairs` meets its contract: the pairs left decide. Assumes nothing.
-use mathlib.Core.Path.{_≡_, refl, sym, _∙_}
-use Prim.Native.Nat.{suc, _+_, _-_, _*_, _≤_, _<_}
+use mathlib.Core.Path.{_≡_, sym, _∙_}
+use Prim.Native.Nat.{suc, _+_, _-_, _*_, _≤_}
 use native.Mathlib.Omega.{arith}
 use Rattle.model.specs.Bytes.{view}
-use Rattle.script.specs.Fields.{largest, pairValue, allPairs}
+use Rattle.script.specs.Fields.{allPairs}
 use Rattle.script.proofs.FieldLaws.{pairs-more, pairs-not, pairs-none}
 use borrow.Author.Needs.{needs}
 use Rattle.script.proofs.all_pairs.Statement.{statement}
 use Rattle.script.proofs.all_pairs.Tie as tie
-use Rattle.script.proofs.all_pairs.Reads as reads
-use Rattle.script.proofs.all_pairs.Lts as lts
-use Rattle.script.proofs.pair_value.Reads as pair-value-reads
 
 abbrev Inv-loop : tie.InvT-loop
 Inv-loop line start count seen₀ seen = (seen ≤ count) × (allPairs (view line) (start + 2 * seen) (count - seen) ≡ allPairs (view line) start count)

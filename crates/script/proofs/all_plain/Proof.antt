@@ -8,8 +8,6 @@ use Rattle.script.proofs.FieldLaws.{plain-more, plain-not, plain-none}
 use borrow.Author.Needs.{needs}
 use Rattle.script.proofs.all_plain.Statement.{statement}
 use Rattle.script.proofs.all_plain.Tie as tie
-use Rattle.script.proofs.all_plain.Reads as reads
-use Rattle.script.proofs.all_plain.Lts as lts
 
 abbrev Inv-loop : tie.InvT-loop
 Inv-loop line start end at₀ at = (start ≤ at) × (at ≤ end) × (allPlain (view line) at (end - at) ≡ allPlain (view line) start (end - start))

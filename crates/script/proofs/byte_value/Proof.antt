@@ -7,15 +7,12 @@ use Rattle.script.proofs.FieldLaws.{byte-two, byte-not}
 use borrow.Author.Needs.{needs}
 use Rattle.script.proofs.byte_value.Statement.{statement}
 use Rattle.script.proofs.byte_value.Tie as tie
-use Rattle.script.proofs.byte_value.Reads as reads
-use Rattle.script.proofs.byte_value.Lts as lts
-use Rattle.script.proofs.pair_value.Reads as pair-value-reads
 
 sub-if1 : tie.Need-sub-if1
 sub-if1 c = search needs
 
 returns : tie.Need-returns
-returns c =     let a = c .before .before .args in sym (byte-not (view (a .line .now)) (a .start) (a .end - a .start) (λ e. omega arith))
+returns c = let a = c .before .before .args in sym (byte-not (view (a .line .now)) (a .start) (a .end - a .start) (λ e. omega arith))
 
 pair-value-requires : tie.Need-pair-value-requires
 pair-value-requires c κs = search needs

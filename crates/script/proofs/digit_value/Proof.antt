@@ -5,8 +5,6 @@ use Rattle.script.proofs.FieldLaws.{digit-low, digit-capital, digit-sma
 use borrow.Author.Needs.{needs}
 use Rattle.script.proofs.digit_value.Statement.{statement}
 use Rattle.script.proofs.digit_value.Tie as tie
-use Rattle.script.proofs.digit_value.Reads as reads
-use Rattle.script.proofs.digit_value.Lts as lts
 
 cast-result : tie.Need-cast-result
 cast-result c = search needs

@@ -7,15 +7,12 @@ use Rattle.script.proofs.FieldLaws.{half-low, half-high}
 use borrow.Author.Needs.{needs}
 use Rattle.script.proofs.half_value.Statement.{statement}
 use Rattle.script.proofs.half_value.Tie as tie
-use Rattle.script.proofs.half_value.Reads as reads
-use Rattle.script.proofs.half_value.Lts as lts
-use Rattle.script.proofs.number_value.Reads as number-value-reads
 
 number-value-requires : tie.Need-number-value-requires
 number-value-requires c κs = search needs
 
 returns : tie.Need-returns
-returns c =     let a = c .before .before .before .args in sym (half-high (view (a .line .now)) (a .start) (a .end - a .start) (omega arith))
+returns c = let a = c .before .before .before .args in sym (half-high (view (a .line .now)) (a .start) (a .end - a .start) (omega arith))
 
 returns-2 : tie.Need-returns-2
 returns-2 c =

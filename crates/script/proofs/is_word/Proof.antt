@@ -7,9 +7,6 @@ use Rattle.script.proofs.FieldLaws.{word-other, word-past, word-by}
 use borrow.Author.Needs.{needs}
 use Rattle.script.proofs.is_word.Statement.{statement}
 use Rattle.script.proofs.is_word.Tie as tie
-use Rattle.script.proofs.is_word.Reads as reads
-use Rattle.script.proofs.is_word.Lts as lts
-use Rattle.store.proofs.same_bytes.Reads as same-bytes-reads
 
 returns : tie.Need-returns
 returns c =

@@ -8,9 +8,6 @@ use Rattle.script.proofs.FieldLaws.{decimal-more, decimal-not, decimal-
 use borrow.Author.Needs.{needs}
 use Rattle.script.proofs.number_value.Statement.{statement}
 use Rattle.script.proofs.number_value.Tie as tie
-use Rattle.script.proofs.number_value.Reads as reads
-use Rattle.script.proofs.number_value.Lts as lts
-use Rattle.script.proofs.digit_value.Reads as digit-value-reads
 
 abbrev Inv-loop : tie.InvT-loop
 Inv-loop line start end size value₀ at₀ value at = (start ≤ at) × (at ≤ end) × (value < 10 ^ (at - start)) × (decimalFrom (view line) at (end - at) value ≡ decimalFrom (view line) start (end - start) 0)
@@ -22,13 +19,13 @@ sub-size : tie.Need-sub-size Inv-loop μ-loop
 sub-size c = search needs
 
 returns : tie.Need-returns Inv-loop μ-loop
-returns c =     let a = c .before .before .args in sym (number-out (view (a .line .now)) (a .start) (a .end - a .start) (λ u v. omega arith))
+returns c = let a = c .before .before .args in sym (number-out (view (a .line .now)) (a .start) (a .end - a .start) (λ u v. omega arith))
 
 returns-2 : tie.Need-returns-2 Inv-loop μ-loop
-returns-2 c =     let a = c .before .before .before .args in sym (number-out (view (a .line .now)) (a .start) (a .end - a .start) (λ u v. omega arith))
+returns-2 c = let a = c .before .before .before .args in sym (number-out (view (a .line .now)) (a .start) (a .end - a .start) (λ u v. omega arith))
 
 loop-holds : tie.Need-loop-holds Inv-loop μ-loop
-loop-holds c =     let a = c .before .before .before .args in (omega arith, omega arith, tens-none (a .start - a .start), refl)
+loop-holds c = let a = c .before .before .before .args in (omega arith, omega arith, tens-none (a .start - a .start), refl)
 
 shared-slice-read-digit-value : tie.Need-shared-slice-read-digit-value Inv-loop μ-loop
 shared-slice-read-digit-value c = search needs

@@ -9,8 +9,6 @@ use Rattle.script.proofs.FieldLaws.{place-here, place-more, place-none}
 use borrow.Author.Needs.{needs}
 use Rattle.script.proofs.place_of.Statement.{statement}
 use Rattle.script.proofs.place_of.Tie as tie
-use Rattle.script.proofs.place_of.Reads as reads
-use Rattle.script.proofs.place_of.Lts as lts
 
 abbrev Inv-loop : tie.InvT-loop
 Inv-loop s from byte at₀ at = (from ≤ at) × (at ≤ length s) × (placeOf (view s) byte at (length s - at) ≡ placeOf (view s) byte from (length s - from))

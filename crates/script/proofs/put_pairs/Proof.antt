@@ -10,9 +10,6 @@ use Rattle.script.proofs.FieldLaws.{pairs-at}
 use borrow.Author.Needs.{needs}
 use Rattle.script.proofs.put_pairs.Statement.{statement}
 use Rattle.script.proofs.put_pairs.Tie as tie
-use Rattle.script.proofs.put_pairs.Reads as reads
-use Rattle.script.proofs.put_pairs.Lts as lts
-use Rattle.script.proofs.pair_value.Reads as pair-value-reads
 
 abbrev Inv-loop : tie.InvT-loop
 Inv-loop line start count room₀ to done₀ room done = (done ≤ count) × (length room ≡ length room₀) × (view room ≡ paste (view room₀) to done (pairs (view line) start))

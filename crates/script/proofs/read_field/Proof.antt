@@ -7,10 +7,6 @@ use Rattle.script.proofs.FormLaws.{found, read-past, read-good, read-ba
 use borrow.Author.Needs.{needs}
 use Rattle.script.proofs.read_field.Statement.{statement}
 use Rattle.script.proofs.read_field.Tie as tie
-use Rattle.script.proofs.read_field.Reads as reads
-use Rattle.script.proofs.read_field.Lts as lts
-use Rattle.script.proofs.place_of.Reads as place-of-reads
-use Rattle.script.proofs.take_field.Reads as take-field-reads
 
 returns : tie.Need-returns
 returns c = let a = c .before .before .before .before .before .args in read-past (view (a .line .now)) (length (a .line .now)) (length (a .buffer .now)) (a .form) (a .i) (found (a .at) (view (a .values .now)) (view (a .room .now)) (view (a .buffer .now))) (omega arith)

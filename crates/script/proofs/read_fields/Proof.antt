@@ -11,15 +11,12 @@ use Rattle.script.proofs.FitLaws.{fits}
 use borrow.Author.Needs.{needs}
 use Rattle.script.proofs.read_fields.Statement.{statement}
 use Rattle.script.proofs.read_fields.Tie as tie
-use Rattle.script.proofs.read_fields.Reads as reads
-use Rattle.script.proofs.read_fields.Lts as lts
-use Rattle.script.proofs.read_field.Reads as read-field-reads
 
 abbrev Inv-loop : tie.InvT-loop
 Inv-loop line at forms values₀ room₀ buffer₀ now₀ i₀ values room buffer now i =
     (i ≤ length forms) × (length values ≡ length values₀) × (length room ≡ length room₀) × (length buffer ≡ length buffer₀)
-        × (readFields (view line) (length line) (length buffer₀) (view forms) i (length forms - i) (found now (view values) (view room) (view buffer))
-        ≡ readFields (view line) (length line) (length buffer₀) (view forms) 0 (length forms) (found at (view values₀) (view room₀) (view buffer₀)))
+    × (readFields (view line) (length line) (length buffer₀) (view forms) i (length forms - i) (found now (view values) (view room) (view buffer))
+    ≡ readFields (view line) (length line) (length buffer₀) (view forms) 0 (length forms) (found at (view values₀) (view room₀) (view buffer₀)))
 
 abbrev μ-loop : tie.MeasureT-loop
 μ-loop line at forms values₀ room₀ buffer₀ now₀ i₀ values room buffer now i = length forms - i

@@ -1,5 +1,5 @@
 -- `script::take_data` meets its contract. Assumes nothing.
-use mathlib.Core.Path.{_≡_, sym, ap, _∙_}
+use mathlib.Core.Path.{sym, ap, _∙_}
 use Prim.Native.Nat.{_-_}
 use native.Mathlib.Omega.{arith}
 use lib.ListN.{length}
@@ -9,10 +9,6 @@ use Rattle.script.proofs.FieldLaws.{data-empty, data-dash, data-pairs, 
 use borrow.Author.Needs.{needs}
 use Rattle.script.proofs.take_data.Statement.{statement}
 use Rattle.script.proofs.take_data.Tie as tie
-use Rattle.script.proofs.take_data.Reads as reads
-use Rattle.script.proofs.take_data.Lts as lts
-use Rattle.script.proofs.is_dash.Reads as is-dash-reads
-use Rattle.script.proofs.take_pairs.Reads as take-pairs-reads
 
 returns : tie.Need-returns
 returns c =

@@ -6,13 +6,6 @@ use Rattle.script.proofs.FormLaws.{taken-number, taken-half, taken-byte
 use borrow.Author.Needs.{needs}
 use Rattle.script.proofs.take_field.Statement.{statement}
 use Rattle.script.proofs.take_field.Tie as tie
-use Rattle.script.proofs.take_field.Reads as reads
-use Rattle.script.proofs.take_field.Lts as lts
-use Rattle.script.proofs.byte_value.Reads as byte-value-reads
-use Rattle.script.proofs.half_value.Reads as half-value-reads
-use Rattle.script.proofs.number_value.Reads as number-value-reads
-use Rattle.script.proofs.take_data.Reads as take-data-reads
-use Rattle.script.proofs.take_text.Reads as take-text-reads
 
 number-value-requires : tie.Need-number-value-requires
 number-value-requires c κs = search needs

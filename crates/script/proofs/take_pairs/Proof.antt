@@ -1,5 +1,5 @@
 -- `script::take_pairs` meets its contract. Assumes nothing.
-use mathlib.Core.Path.{_≡_, sym, ap, _∙_}
+use mathlib.Core.Path.{sym, ap, _∙_}
 use Prim.Native.Nat.{_-_, _/_, _≤_}
 use native.Mathlib.Omega.{arith}
 use borrow.Author.Tests.{not-true, not-false}
@@ -9,10 +9,6 @@ use Rattle.script.proofs.FieldLaws.{size-odd, size-many, size-other, si
 use borrow.Author.Needs.{needs}
 use Rattle.script.proofs.take_pairs.Statement.{statement}
 use Rattle.script.proofs.take_pairs.Tie as tie
-use Rattle.script.proofs.take_pairs.Reads as reads
-use Rattle.script.proofs.take_pairs.Lts as lts
-use Rattle.script.proofs.all_pairs.Reads as all-pairs-reads
-use Rattle.script.proofs.put_pairs.Reads as put-pairs-reads
 
 sub-size : tie.Need-sub-size
 sub-size c = search needs

@@ -1,5 +1,5 @@
 -- `script::take_plain` meets its contract. Assumes nothing.
-use mathlib.Core.Path.{_≡_, sym, ap, _∙_}
+use mathlib.Core.Path.{sym, ap, _∙_}
 use Prim.Native.Nat.{_-_, _≤_}
 use native.Mathlib.Omega.{arith}
 use borrow.Author.Tests.{not-true, not-false}
@@ -9,10 +9,6 @@ use Rattle.script.proofs.FieldLaws.{plain-many, plain-other, plain-good
 use borrow.Author.Needs.{needs}
 use Rattle.script.proofs.take_plain.Statement.{statement}
 use Rattle.script.proofs.take_plain.Tie as tie
-use Rattle.script.proofs.take_plain.Reads as reads
-use Rattle.script.proofs.take_plain.Lts as lts
-use Rattle.script.proofs.all_plain.Reads as all-plain-reads
-use Rattle.store.proofs.copy_run.Reads as copy-run-reads
 
 sub-count : tie.Need-sub-count
 sub-count c = search needs

@@ -8,11 +8,6 @@ use Rattle.script.proofs.FieldLaws.{text-empty, text-dash, text-pairs, 
 use borrow.Author.Needs.{needs}
 use Rattle.script.proofs.take_text.Statement.{statement}
 use Rattle.script.proofs.take_text.Tie as tie
-use Rattle.script.proofs.take_text.Reads as reads
-use Rattle.script.proofs.take_text.Lts as lts
-use Rattle.script.proofs.is_dash.Reads as is-dash-reads
-use Rattle.script.proofs.take_pairs.Reads as take-pairs-reads
-use Rattle.script.proofs.take_plain.Reads as take-plain-reads
 
 returns : tie.Need-returns
 returns c =
