@@ -20,7 +20,7 @@ most-or-more {P} a b most more = go (leb a b) refl
     go true e = most (leb-true a b e)
     go false e = more (leb-false a b e)
 
-pub within-out : (low high x : ℕ) → (low ≤ x → x ≤ high → ⊥) → within low high x ≡ false
+within-out : (low high x : ℕ) → (low ≤ x → x ≤ high → ⊥) → within low high x ≡ false
 unfolding within _and_
 within-out low high x n =
     most-or-more low x

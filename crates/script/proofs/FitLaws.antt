@@ -47,7 +47,7 @@ module _ (s : Bytes) (a k : ℕ) where
       (λ n. true-or-false (isDash s a k) (λ t. omega (arith, data-dash s a k most n t))
       (λ f. let e = data-pairs s a k most n f in omega (arith, e, pairs-most most (omega (arith, e)))))
 
-pub text-most : (s : Bytes) (a k : ℕ) → textSize s a k ≤ largest → textSize s a k ≤ textMost
+text-most : (s : Bytes) (a k : ℕ) → textSize s a k ≤ largest → textSize s a k ≤ textMost
 text-most s a k h =
     at-or-off k 0 (λ e. omega (arith, text-empty s a k e))
     (λ n. true-or-false (isDash s a k) (λ t. omega (arith, text-dash s a k n t))
@@ -60,7 +60,7 @@ form-rest : (most form : ℕ) → (form ≡ 72 → ⊥) → (form ≡ 66 → ⊥
     → formMost most form ≡ largest
 form-rest most form h b d t u = rw (ne-eqb form 72 h, ne-eqb form 66 b, ne-eqb form 68 d, ne-eqb form 84 t, ne-eqb form 83 u, formMost)
 
-pub field-most : (s : Bytes) (a k most form : ℕ) → fieldValue s a k most form ≤ largest → fieldValue s a k most form ≤ formMost most form
+field-most : (s : Bytes) (a k most form : ℕ) → fieldValue s a k most form ≤ largest → fieldValue s a k most form ≤ formMost most form
 unfolding fieldValue
 field-most s a k most form p =
     at-or-off form 72 (λ e. rw e (half-most s a k (rw e at p)))

@@ -64,7 +64,7 @@ module _ (s : Bytes) (a k most : ℕ) (room buffer : Bytes) (form : ℕ) where
   unfolding fieldValue
   value-data e = rw e
 
-  pub room-bad : largest < fieldValue s a k most form → room ≡ fieldRoom s a k form room
+  room-bad : largest < fieldValue s a k most form → room ≡ fieldRoom s a k form room
   unfolding fieldRoom
   room-bad p =
       at-or-off form 84
@@ -73,7 +73,7 @@ module _ (s : Bytes) (a k most : ℕ) (room buffer : Bytes) (form : ℕ) where
       (λ e. rw e (paste-bad room textMost (textSize s a k) (textBytes s a) (omega (arith, value-second e))))
       (λ m. rw (ne-eqb form 84 n, ne-eqb form 83 m, fieldRoom)))
 
-  pub buffer-bad : largest < fieldValue s a k most form → buffer ≡ fieldBuffer s a k most form buffer
+  buffer-bad : largest < fieldValue s a k most form → buffer ≡ fieldBuffer s a k most form buffer
   unfolding fieldBuffer
   buffer-bad p =
       at-or-off form 68
