@@ -192,7 +192,7 @@ fn take_pairs(
     to: usize,
     most: usize,
 ) -> usize
-    requires { ⌜ (start ≤ end) × (end ≤ length (now line)) × (to + most ≤ length (now room)) ⌝ }
+    requires { ⌜ (start ≤ end) × (end ≤ length (now line)) × (length (now line) ≤ 4096) × (to + most ≤ length (now room)) ⌝ }
     ensures { λ r. ⌜ r ≡ pairsSize (view (now (line .entry))) start (end - start) most ⌝ }
     ensures { λ r. ⌜ view (now (room .exit)) ≡ paste (view (now (room .entry))) to (sized r) (pairs (view (now (line .entry))) start) ⌝ }
 {
@@ -259,7 +259,7 @@ fn is_dash(line: &[u8], start: usize, end: usize) -> bool
 
 // DATA: pairs of hex digits, or a dash for no bytes.
 fn take_data(line: &[u8], start: usize, end: usize, buffer: &mut [u8]) -> usize
-    requires { ⌜ (start ≤ end) × (end ≤ length (now line)) ⌝ }
+    requires { ⌜ (start ≤ end) × (end ≤ length (now line)) × (length (now line) ≤ 4096) ⌝ }
     ensures { λ r. ⌜ r ≡ dataSize (view (now (line .entry))) start (end - start) (length (now (buffer .entry))) ⌝ }
     ensures { λ _. ⌜ view (now (buffer .exit)) ≡ putData (view (now (line .entry))) start (end - start) (length (now (buffer .entry))) (view (now (buffer .entry))) ⌝ }
 {
@@ -275,7 +275,7 @@ fn take_data(line: &[u8], start: usize, end: usize, buffer: &mut [u8]) -> usize
 
 // A PATH or a NAME: itself, an equals sign and pairs of hex digits, or a dash for no bytes.
 fn take_text(line: &[u8], start: usize, end: usize, room: &mut [u8], to: usize) -> usize
-    requires { ⌜ (start ≤ end) × (end ≤ length (now line)) × (to + textMost ≤ length (now room)) ⌝ }
+    requires { ⌜ (start ≤ end) × (end ≤ length (now line)) × (length (now line) ≤ 4096) × (to + textMost ≤ length (now room)) ⌝ }
     ensures { λ r. ⌜ r ≡ textSize (view (now (line .entry))) start (end - start) ⌝ }
     ensures { λ _. ⌜ view (now (room .exit)) ≡ putText (view (now (line .entry))) start (end - start) (view (now (room .entry))) to ⌝ }
 {
@@ -300,7 +300,7 @@ fn take_field(
     room: &mut [u8],
     buffer: &mut [u8],
 ) -> usize
-    requires { ⌜ (start ≤ end) × (end ≤ length (now line)) × (length (now room) ≡ 256) ⌝ }
+    requires { ⌜ (start ≤ end) × (end ≤ length (now line)) × (length (now line) ≤ 4096) × (length (now room) ≡ 256) ⌝ }
     ensures { λ r. ⌜ r ≡ fieldValue (view (now (line .entry))) start (end - start) (length (now (buffer .entry))) form ⌝ }
     ensures { λ _. ⌜ view (now (room .exit)) ≡ fieldRoom (view (now (line .entry))) start (end - start) form (view (now (room .entry))) ⌝ }
     ensures { λ _. ⌜ view (now (buffer .exit)) ≡ fieldBuffer (view (now (line .entry))) start (end - start) (length (now (buffer .entry))) form (view (now (buffer .entry))) ⌝ }
@@ -326,7 +326,7 @@ fn read_field(
     room: &mut [u8],
     buffer: &mut [u8],
 ) -> usize
-    requires { ⌜ (i < length (now values)) × (length (now room) ≡ 256) ⌝ }
+    requires { ⌜ (length (now line) ≤ 4096) × (i < length (now values)) × (length (now room) ≡ 256) ⌝ }
     ensures { λ r. ⌜ record { at = r; values = view (now (values .exit)); room = view (now (room .exit)); buffer = view (now (buffer .exit)) } ≡ readField (view (now (line .entry))) (length (now (line .entry))) (length (now (buffer .entry))) form i (record { at = at; values = view (now (values .entry)); room = view (now (room .entry)); buffer = view (now (buffer .entry)) }) ⌝ }
 {
     if line.len() <= at {
