@@ -26,7 +26,7 @@ use Rattle.directory.specs.Search.{Each}
 use Rattle.directory.specs.declared.Home.{Home}
 use Rattle.directory.proofs.SlotLaws.{place-of}
 use Rattle.directory.proofs.AnswerLaws.{vacant-some, listed-inside}
-use Rattle.opening.proofs.EntryLaws.{eof-at}
+use Rattle.model.proofs.Laws.Keep.{eof-at}
 use Rattle.release.proofs.Laws.{chain-step}
 use Rattle.create.specs.Entered.{freshBlock, enteredIn, gainedAt, createIn, grown, Houses}
 

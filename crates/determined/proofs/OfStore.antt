@@ -24,6 +24,8 @@ use Rattle.store.proofs.put_long.Reads as put-long-reads
 use Rattle.store.proofs.put_long.Kinds as put-long-kinds
 use Rattle.store.proofs.copy_run.Reads as copy-run-reads
 use Rattle.store.proofs.copy_run.Kinds as copy-run-kinds
+use Rattle.store.proofs.place_of.Reads as place-of-reads
+use Rattle.store.proofs.place_of.Kinds as place-of-kinds
 use Rattle.store.proofs.clear_run.Reads as clear-run-reads
 use Rattle.store.proofs.clear_run.Kinds as clear-run-kinds
 
@@ -59,6 +61,9 @@ put-long-one κs a r₁ r₂ w₁ w₂ p q = (refl, p ∙ sym q)
 
 pub copy-run-one : Determined _ copy-run-kinds.ps copy-run-kinds.r copy-run-reads.Post Bytes (λ _ _ w. view (w .0))
 copy-run-one κs a r₁ r₂ w₁ w₂ p q = (refl, p ∙ sym q)
+
+pub place-of-one : Determined _ place-of-kinds.ps place-of-kinds.r place-of-reads.Post Nothing-seen (λ _ _ _. none-seen)
+place-of-one κs a r₁ r₂ w₁ w₂ p q = (p .0 ∙ sym (q .0), refl)
 
 pub clear-run-one : Determined _ clear-run-kinds.ps clear-run-kinds.r clear-run-reads.Post Bytes (λ _ _ w. view (w .0))
 clear-run-one κs a r₁ r₂ w₁ w₂ p q = (refl, p ∙ sym q)

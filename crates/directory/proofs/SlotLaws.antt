@@ -14,6 +14,7 @@ use Rattle.model.specs.Info.{stampAt}
 use Rattle.model.specs.declared.Kind.{Kind}
 use Rattle.model.specs.declared.Entry.{Entry}
 use Rattle.model.specs.declared.Place.{Place}
+use Rattle.model.proofs.Laws.Keep.{sort-at, field-at}
 use Rattle.model.proofs.ByteLaws.{Agree, agree-part, word-agree, word-from, long-agree, long-from}
 use Rattle.names.proofs.PartLaws.{slot-same, part-run}
 use Rattle.directory.specs.Slots.{placeNumber, placeOf, Counted, kindOf, entryWith, entryOf, slotSays, decoded}
@@ -104,21 +105,13 @@ sort-improper k h n = rw (ne-eqb k 0 (λ e. omega arith), lt-leb k 3 h, ne-eqb k
 
 -- What an entry says is what the definitions read at its place.
 module _ (v : Bytes) (s : ℕ) (entry : s ≡ volume → ⊥) where
-  pub sort-entry : sort v s ≡ sortOf (v (at s) / 16)
-  unfolding sort
-  sort-entry = rw (ne-eqb s volume entry, sort)
-
-  pub field-entry : (o r : ℕ) → field v s o r ≡ word v (at s + o)
-  unfolding field
-  field-entry o r = rw (ne-eqb s volume entry, field)
-
   pub entry-kind : entryOf v (at s) .kind ≡ kindOf (sort v s) (key v s)
   unfolding entryOf entryWith
-  entry-kind = rw (sort-entry, field-entry)
+  entry-kind = rw (sort-at v s entry, field-at v s 0x11 _ entry)
 
   pub entry-used : entryOf v (at s) .used ≡ used v s
   unfolding entryOf entryWith
-  entry-used = sym (field-entry 0x13 4)
+  entry-used = sym (field-at v s 0x13 4 entry)
 
   pub entry-eof : entryOf v (at s) .eof ≡ eof v s
   unfolding entryOf entryWith eof
@@ -147,7 +140,7 @@ entry-key v s h = ap keyOf (entry-kind v s h) ∙ key-of-kind (sort v s) (key v 
 module _ (xs : List ℕ) (a k s : ℕ) (start : a ≡ at s) (size : k ≡ 39) where
   pub slot-decoded : (s ≡ volume → ⊥) → decoded (view (take k (drop a xs))) ≡ slotSays (sort (view xs) s) (entryOf (view xs) (at s))
   slot-decoded h =
-      rw (start, size, sort-entry (view xs) s h)
+      rw (start, size, sort-at (view xs) s h)
       (decoded-lent (view (take 39 (drop (at s) xs))) (view xs) (at s) (agree-part xs (at s) 39))
 
   pub slot-named : (p : Bytes) (x : Part) → sameName (view (take k (drop a xs))) 0 p x ≡ sameName (view xs) (at s) p x

@@ -26,7 +26,8 @@ use Rattle.opening.specs.Sorts.{isFolder, heightOf}
 use Rattle.opening.specs.declared.Opened.{Opened}
 use Rattle.opening.specs.declared.Opened.the-variants as opened
 use Rattle.opening.proofs.VolumeLaws.{Fits}
-use Rattle.opening.proofs.EntryLaws.{Named, target-named, field-at, height-sort, key-sort, height-small, kind-is, folder-is, eof-is, access-is, file-is}
+use Rattle.model.proofs.Laws.Keep.{field-at}
+use Rattle.opening.proofs.EntryLaws.{Named, target-named, height-sort, key-sort, height-small, kind-is, folder-is, eof-is, access-is, file-is}
 use Rattle.opening.proofs.OpenedLaws.{Seen, refused, on-volume, on-entry, seen}
 use Rattle.held.specs.Held.{Held, Told}
 
@@ -47,7 +48,7 @@ module _ (n : ℕ) (v p : Bytes) (k d s : ℕ) (octets : Octets v) (sane : sound
 
   uses : entry .used ≡ used v s
   unfolding entryOf entryWith
-  uses = sym (field-at v s off 0x13 _)
+  uses = sym (field-at v s 0x13 _ off)
 
   entry-held : isFolder (entry .kind) ≡ false → Held n v s entry
   entry-held plain =

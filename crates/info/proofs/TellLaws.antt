@@ -28,7 +28,8 @@ use Rattle.opening.specs.declared.Volume.the-variants as volumes
 use Rattle.opening.specs.declared.Opened.{Opened}
 use Rattle.opening.specs.declared.Opened.the-variants as opened
 use Rattle.opening.proofs.VolumeLaws.{volumeOr, volume-first, Fits, volume-sound}
-use Rattle.opening.proofs.EntryLaws.{Named, target-named, sort-at, field-at, ftype-at, eof-at, kind-back}
+use Rattle.model.proofs.Laws.Keep.{sort-at, field-at, ftype-at, eof-at}
+use Rattle.opening.proofs.EntryLaws.{Named, target-named, kind-back}
 use Rattle.opening.proofs.OpenedLaws.{openedOr, opened-first, Seen, refused, on-volume, on-entry, seen}
 
 -- the outcome of a call that only tells
@@ -84,7 +85,7 @@ entry-told n v d s w off =
       ftype = ftype-at v s off i;
       access = access v s;
       aux = word v (at s + 0x1F);
-      used = field-at v s off 0x13 (volumeLength v) i;
+      used = field-at v s 0x13 (volumeLength v) off i;
       eof = eof-at v s off i;
       created = stampAt v (at s + 0x18);
       modified = stampAt v (at s + 0x21);

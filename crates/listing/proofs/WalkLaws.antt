@@ -21,7 +21,8 @@ use Rattle.facts.proofs.BlockLaws.{met-directory}
 use Rattle.facts.proofs.LookupLaws.{volume-directory}
 use Rattle.facts.proofs.SlotLaws.{kid-entry}
 use Rattle.directory.specs.Search.{Each, slotsFrom, listed}
-use Rattle.directory.proofs.SlotLaws.{sort-entry, field-entry, sort-improper}
+use Rattle.model.proofs.Laws.Keep.{sort-at, field-at as field-by}
+use Rattle.directory.proofs.SlotLaws.{sort-improper}
 use Rattle.directory.proofs.SearchLaws.{rest, rest-more, slots-more, each-head, each-tail, each-front, each-back}
 use Rattle.listing.specs.Walked.{lineOf, walked, blockCount, Whole, Listed, Chained}
 
@@ -93,7 +94,7 @@ module _ (xs : List ℕ) (p : List ℕ) (s a k : ℕ) (entry : s ≡ volume → 
   type-byte = view-read xs a k 0x10 (omega arith) ∙ ap (λ b. view xs (b + 0x10)) start ∙ rw (ne-eqb s volume entry, ftype)
 
   used-word : word (view (take k (drop a xs))) 0x13 ≡ used (view xs) s
-  used-word = word-part xs a k 0x13 (omega arith) ∙ ap (λ b. word (view xs) (b + 0x13)) start ∙ sym (field-entry (view xs) s entry 0x13 4)
+  used-word = word-part xs a k 0x13 (omega arith) ∙ ap (λ b. word (view xs) (b + 0x13)) start ∙ sym (field-by (view xs) s 0x13 4 entry)
 
   eof-long : long (view (take k (drop a xs))) 0x15 ≡ eof (view xs) s
   unfolding eof
@@ -112,19 +113,19 @@ sort-file k h e = rw (ne-eqb k 0 h, e, sortOf)
 module _ (v : Bytes) (s : ℕ) (entry : s ≡ volume → ⊥) where
   sort-none : v (at s) / 16 ≡ 0 → sort v s ≡ inactive
   unfolding sortOf
-  sort-none h = sort-entry v s entry ∙ ap sortOf h
+  sort-none h = sort-at v s entry ∙ ap sortOf h
 
   pub sort-directory : v (at s) / 16 ≡ 13 → sort v s ≡ directory
   unfolding sortOf
-  sort-directory h = sort-entry v s entry ∙ ap sortOf h
+  sort-directory h = sort-at v s entry ∙ ap sortOf h
 
   sort-other : (v (at s) / 16 ≡ 0 → ⊥) → (v (at s) / 16 ≡ 13 → ⊥) → (isActive (sort v s) ≡ true) × (kids v s ≡ [])
   unfolding slotsBelow
   sort-other h g = go (leb (v (at s) / 16) 3) refl
     where
       go : (b : Bool) → leb (v (at s) / 16) 3 ≡ b → (isActive (sort v s) ≡ true) × (kids v s ≡ [])
-      go true e = rw (sort-entry v s entry ∙ sort-file (v (at s) / 16) h e) (refl, refl)
-      go false e = rw (sort-entry v s entry ∙ sort-improper (v (at s) / 16) (leb-false (v (at s) / 16) 3 e) g) (refl, refl)
+      go true e = rw (sort-at v s entry ∙ sort-file (v (at s) / 16) h e) (refl, refl)
+      go false e = rw (sort-at v s entry ∙ sort-improper (v (at s) / 16) (leb-false (v (at s) / 16) 3 e) g) (refl, refl)
 
 -- The text of one slot: nothing, a line, or a line and a directory.
 pub quiet-text : (v : Bytes) (l : ℕ) (p : List ℕ) (s : ℕ) → (s ≡ volume → ⊥) → v (at s) / 16 ≡ 0 → [] ≡ walked v l p (s ∷ [])
@@ -234,7 +235,7 @@ module _ (img : List ℕ) (l s a : ℕ) (whole : Whole img) (w : Listed (view im
   path-at p q e = e ∙ ap (λ b. p ++ (slash ∷ text (view img) (b + 1) (nameSize (view img) b))) start
 
   field-at : (o r x : ℕ) → x ≡ word (view img) (a + o) → x ≡ field (view img) s o r
-  field-at o r x e = e ∙ ap (λ b. word (view img) (b + o)) start ∙ sym (field-entry (view img) s (w .entry) o r)
+  field-at o r x e = e ∙ ap (λ b. word (view img) (b + o)) start ∙ sym (field-by (view img) s o r (w .entry))
 
   pub slot-few : s / 13 < blockCount img → s / 13 < 65536
   slot-few h = omega (arith, sound-facts (blockCount img) (view img) (whole .safe) .most)

@@ -9,7 +9,7 @@ use lib.Seq.{getD-set-same, getD-set-other, getD-take, getD-drop, getD-append-ad
 use lib.Dec.{eqb, leb, ltb}
 use native.Mathlib.Omega.{arith}
 use borrow.Author.Tests.{eqb-true, eqb-false, ltb-true, ltb-false, leb-true, leb-false, eq-eqb, ne-eqb, le-leb, lt-ltb}
-use Rattle.model.specs.Bytes.{Bytes, view, Octets, put, paste, from, zeros, clear, digit, word, long, putWord, putLong, equalBytes}
+use Rattle.model.specs.Bytes.{Bytes, view, Octets, put, paste, from, zeros, clear, digit, word, long, putWord, putLong, equalBytes, placeOf}
 use Rattle.model.specs.Map.{allZero}
 
 -- two sources agree below k
@@ -471,3 +471,32 @@ zero-all f a k h = zero-equal f a 0 k ∙ equal-all f a zeros 0 k h
 
 pub zero-not : (f : Bytes) (a k i : ℕ) → i < k → (f (a + i) ≡ 0 → ⊥) → allZero f a k ≡ false
 zero-not f a k i h n = zero-equal f a 0 k ∙ equal-not f a zeros 0 k i h n
+
+-- the place of a byte, which lies among the bytes looked at
+module _ (f : Bytes) (c a : ℕ) where
+  pub place-here : (k : ℕ) → f a ≡ c → placeOf f c a k ≡ a
+  unfolding placeOf
+  place-here zero h = refl
+  place-here (suc k) h = rw (eq-eqb _ _ h, placeOf)
+
+  pub place-more : (k m : ℕ) → k ≡ suc m → (f a ≡ c → ⊥) → placeOf f c a k ≡ placeOf f c (a + 1) m
+  unfolding placeOf
+  place-more k m e h = rw (e, ne-eqb _ _ h, placeOf)
+
+  pub place-none : placeOf f c a 0 ≡ a
+  unfolding placeOf
+  place-none = refl
+
+pub place-from : (f : Bytes) (c a k : ℕ) → a ≤ placeOf f c a k
+place-from f c a zero = rw (place-none f c a) (omega arith)
+place-from f c a (suc k) =
+    at-or-off (f a) c
+    (λ e. rw (place-here f c a (suc k) e) (omega arith))
+    (λ n. let h = place-from f c (a + 1) k in rw (place-more f c a (suc k) k refl n) (omega arith))
+
+pub place-upto : (f : Bytes) (c a k : ℕ) → placeOf f c a k ≤ a + k
+place-upto f c a zero = rw (place-none f c a) (omega arith)
+place-upto f c a (suc k) =
+    at-or-off (f a) c
+    (λ e. rw (place-here f c a (suc k) e) (omega arith))
+    (λ n. let h = place-upto f c (a + 1) k in rw (place-more f c a (suc k) k refl n) (omega arith))

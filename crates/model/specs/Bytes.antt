@@ -57,6 +57,11 @@ unfoldable pub equalBytes : Bytes → ℕ → Bytes → ℕ → ℕ → Bool
 equalBytes f a g b zero = true
 equalBytes f a g b (suc k) = elim (eqb (f a) (g b)) [ true ↦ equalBytes f (a + 1) g (b + 1) k | false ↦ false ]
 
+-- the first place among the k from a on that has the byte c, or their end
+unfoldable pub placeOf : Bytes → ℕ → ℕ → ℕ → ℕ
+placeOf f c a zero = a
+placeOf f c a (suc k) = elim (eqb (f a) c) [ true ↦ a | false ↦ placeOf f c (a + 1) k ]
+
 -- Tests, and what they count for.
 unfoldable pub _and_ : Bool → Bool → Bool
 true and b = b

@@ -4,7 +4,7 @@ use Prim.Native.Nat.{ℕ, zero, suc, _+_, _-_, _%_}
 use mathlib.Core.List.{List, [], _∷_}
 use mathlib.Core.Bool.{Bool, true, false}
 use lib.Dec.{leb, ltb, eqb}
-use Rattle.model.specs.Bytes.{Bytes, equalBytes, _and_, _or_, within}
+use Rattle.model.specs.Bytes.{Bytes, equalBytes, placeOf, _and_, _or_, within}
 
 abbrev pub nameMost : ℕ
 nameMost = 15
@@ -46,9 +46,8 @@ abbrev pub part : ℕ → ℕ → Part
 part a k = record { start = a; size = k }
 
 -- the first slash among the k bytes from a on, or their end
-unfoldable pub nameEnd : Bytes → ℕ → ℕ → ℕ
-nameEnd p a zero = a
-nameEnd p a (suc k) = elim (eqb (p a) slash) [ true ↦ a | false ↦ nameEnd p (a + 1) k ]
+abbrev pub nameEnd : Bytes → ℕ → ℕ → ℕ
+nameEnd p a k = placeOf p slash a k
 
 -- The parts of a path of n bytes from a on: a byte, which is to be a slash, and a name up to the next slash or the path's end.
 -- A part has at least one byte, so k = n parts are enough.

@@ -13,28 +13,11 @@ use Rattle.names.specs.declared.Cursor.{Cursor}
 use Rattle.names.specs.declared.Step.the-variants.{Name, End, Bad}
 use Rattle.names.specs.Steps.{found, stepEnd, properStep, stepAt, partsLeft, lastPart, lastStart}
 pub use Rattle.model.proofs.Laws.Lookup.{name-some as name-size}
-use Rattle.names.proofs.Laws.{and-left, and-right, within-true, end-here, end-more, end-none, last-here, last-more}
+use Rattle.model.proofs.ByteLaws.{place-here, place-more, place-from, place-upto}
+use Rattle.names.proofs.Laws.{and-left, and-right, within-true, last-here, last-more}
 
 never : {A : Type 0} → true ≡ false → A
 never e = let z : _≡_ {A = ℕ} 0 1 = cc in absurd (let w : ⊥ = omega arith in w)
-
--- a name ends between its start and the end of the bytes looked at
-module _ (p : Bytes) where
-  from-at : (a k : ℕ) (b : Bool) → eqb (p a) slash ≡ b → a + 1 ≤ nameEnd p (a + 1) k → a ≤ nameEnd p a (suc k)
-  from-at a k true e h = rw (end-here p a (suc k) (eqb-true _ _ e)) (omega arith)
-  from-at a k false e h = rw (end-more p a (suc k) k refl (eqb-false _ _ e)) (omega arith)
-
-  pub end-from : (a k : ℕ) → a ≤ nameEnd p a k
-  end-from a zero = rw (end-none p a) (omega arith)
-  end-from a (suc k) = from-at a k (eqb (p a) slash) refl (end-from (a + 1) k)
-
-  upto-at : (a k : ℕ) (b : Bool) → eqb (p a) slash ≡ b → nameEnd p (a + 1) k ≤ a + 1 + k → nameEnd p a (suc k) ≤ a + suc k
-  upto-at a k true e h = rw (end-here p a (suc k) (eqb-true _ _ e)) (omega arith)
-  upto-at a k false e h = rw (end-more p a (suc k) k refl (eqb-false _ _ e)) (omega arith)
-
-  pub end-upto : (a k : ℕ) → nameEnd p a k ≤ a + k
-  end-upto a zero = rw (end-none p a) (omega arith)
-  end-upto a (suc k) = upto-at a k (eqb (p a) slash) refl (end-upto (a + 1) k)
 
 module _ (p : Bytes) (n a : ℕ) where
   pub step-end : n ≤ a → stepAt p n a ≡ End
@@ -51,10 +34,10 @@ module _ (p : Bytes) (n a : ℕ) where
 
   -- a step goes on by a byte at least, and not past the end
   pub step-after : a + 1 ≤ stepEnd p n a
-  step-after = end-from p (a + 1) (n - (a + 1))
+  step-after = place-from p slash (a + 1) (n - (a + 1))
 
   pub step-fits : a < n → stepEnd p n a ≤ n
-  step-fits h = let t : stepEnd p n a ≤ a + 1 + (n - (a + 1)) = end-upto p (a + 1) (n - (a + 1)) in omega arith
+  step-fits h = let t : stepEnd p n a ≤ a + 1 + (n - (a + 1)) = place-upto p slash (a + 1) (n - (a + 1)) in omega arith
 
   pub parts-more : (k : ℕ) → a < n → partsFrom p n a (suc k) ≡ part (a + 1) (stepEnd p n a - (a + 1)) ∷ partsFrom p n (stepEnd p n a) k
   unfolding partsFrom
@@ -271,10 +254,10 @@ module _ (p : Bytes) where
       → (nameEnd p (b + 1) k ≡ b + 1 + k → lastStart p (b + 1 + k) ≡ lastStart p (b + 1))
       → lastStart p (b + suc k) ≡ lastStart p b
   same-by b k true e h f =
-      let x : nameEnd p b (suc k) ≡ b = end-here p b (suc k) (eqb-true _ _ e) in
+      let x : nameEnd p b (suc k) ≡ b = place-here p slash b (suc k) (eqb-true _ _ e) in
       absurd (let w : ⊥ = omega arith in w)
   same-by b k false e h f =
-      let x : nameEnd p b (suc k) ≡ nameEnd p (b + 1) k = end-more p b (suc k) k refl (eqb-false _ _ e) in
+      let x : nameEnd p b (suc k) ≡ nameEnd p (b + 1) k = place-more p slash b (suc k) k refl (eqb-false _ _ e) in
       let y : b + suc k ≡ b + 1 + k = omega arith in
       rw y (f (omega arith) ∙ last-more p (b + 1) b (omega arith) (eqb-false _ _ e))
 

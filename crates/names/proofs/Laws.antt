@@ -6,7 +6,7 @@ use Prim.Native.Nat.{ℕ, zero, suc, _+_, _-_, _≤_, _<_}
 use native.Mathlib.Omega.{arith}
 use borrow.Author.Tests.{eq-eqb, ne-eqb, lt-leb}
 use Rattle.model.specs.Bytes.{Bytes, equalBytes, _and_, within}
-use Rattle.model.specs.Names.{slash, nameByte, nameBytes, nameEnd, properParts}
+use Rattle.model.specs.Names.{slash, nameByte, nameBytes, properParts}
 use Rattle.model.proofs.TestLaws.{and-off}
 pub use Rattle.model.proofs.TestLaws.{and-left, and-right}
 pub use Rattle.model.proofs.Laws.Spelling.{within-in, within-is as within-true, capital-small, capital-other}
@@ -32,19 +32,6 @@ module _ (p : Bytes) (a : ℕ) where
   pub bytes-none : nameBytes p a 0 ≡ true
   unfolding nameBytes
   bytes-none = refl
-
-  pub end-here : (k : ℕ) → p a ≡ slash → nameEnd p a k ≡ a
-  unfolding nameEnd
-  end-here zero h = refl
-  end-here (suc k) h = rw (eq-eqb _ _ h, nameEnd)
-
-  pub end-more : (k m : ℕ) → k ≡ suc m → (p a ≡ slash → ⊥) → nameEnd p a k ≡ nameEnd p (a + 1) m
-  unfolding nameEnd
-  end-more k m e h = rw (e, ne-eqb _ _ h, nameEnd)
-
-  pub end-none : nameEnd p a 0 ≡ a
-  unfolding nameEnd
-  end-none = refl
 
 -- runs of n bytes, of which i were found equal
 module _ (f g : Bytes) (a b n : ℕ) where

@@ -3,7 +3,7 @@ ghost use mathlib.Core.Path.{_≡_};
 ghost use Prim.Native.Nat.{_+_, _-_, _≤_, _<_};
 ghost use lib.ListN.{length, take, drop};
 ghost use Rattle.model.specs.Bytes.{view, equalBytes};
-ghost use Rattle.model.specs.Names.{capital, letter, nameByte, nameBytes, properName, capitals, part, nameEnd, properPath, capitalName, sameName};
+ghost use Rattle.model.specs.Names.{capital, letter, nameByte, nameBytes, properName, capitals, part, properPath, capitalName, sameName};
 ghost use Rattle.names.specs.Steps.{stepAt, lastStart, alikeNames};
 
 const SLASH: u8 = b'/';
@@ -152,22 +152,6 @@ pub fn same_name(slot: &[u8], name: &[u8]) -> bool
     }
 }
 
-// Bytes 1 to n of both are the same.
-fn are_same_bytes(a: &[u8], b: &[u8], n: usize) -> bool
-    requires { ⌜ (1 + n ≤ length (now a)) × (1 + n ≤ length (now b)) ⌝ }
-    ensures { λ r. ⌜ r ≡ equalBytes (view (now (a .entry))) 1 (view (now (b .entry))) 1 n ⌝ }
-{
-    let mut i: usize = 0;
-    while i < n {
-        if a[1 + i] == b[1 + i] {
-            i += 1;
-        } else {
-            return false;
-        }
-    }
-    true
-}
-
 // Two slots store the same name.
 pub fn alike(a: &[u8], b: &[u8]) -> bool
     requires { ⌜ (length (now a) ≡ 39) × (length (now b) ≡ 39) ⌝ }
@@ -175,25 +159,10 @@ pub fn alike(a: &[u8], b: &[u8]) -> bool
 {
     let n = a[0] % 16;
     if n == b[0] % 16 {
-        are_same_bytes(a, b, wide(n))
+        store::same_bytes(a, 1, b, 1, wide(n))
     } else {
         false
     }
-}
-
-// Where the name that begins at start ends: at the next slash, or with the path.
-fn end_of(path: &[u8], start: usize) -> usize
-    requires { ⌜ start ≤ length (now path) ⌝ }
-    ensures { λ r. ⌜ r ≡ nameEnd (view (now (path .entry))) start (length (now (path .entry)) - start) ⌝ }
-{
-    let mut i = start;
-    while i < path.len() {
-        if path[i] == SLASH {
-            return i;
-        }
-        i += 1;
-    }
-    i
 }
 
 impl Cursor {
@@ -212,7 +181,7 @@ impl Cursor {
         }
         if path[at] == SLASH {
             let start = at + 1;
-            let end = end_of(path, start);
+            let end = store::place_of(path, start, SLASH);
             if is_proper_between(path, start, end) {
                 return Step::Name {
                     start,

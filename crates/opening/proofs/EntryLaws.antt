@@ -14,6 +14,7 @@ use Rattle.model.specs.Sound.{sound}
 use Rattle.model.specs.Calls.{target}
 use Rattle.model.specs.declared.Kind.{Kind}
 use Rattle.model.specs.declared.Kind.the-variants.{Seedling, Sapling, Tree, Directory}
+use Rattle.model.proofs.Laws.Keep.{sort-at, field-at, eof-at}
 use Rattle.facts.specs.Reached.{Met, Led, led-there}
 use Rattle.facts.proofs.LookupLaws.{lookup-led}
 use Rattle.facts.proofs.SlotLaws.{improper-fault}
@@ -32,23 +33,6 @@ led-named n v d s h (led-there {l = l} m o k a) = record { level = l; met = k; a
 
 pub target-named : (n : ℕ) (v p : Bytes) (k d s : ℕ) → sound n v ≡ true → target v p k ≡ there d s → Named v d s
 target-named n v p k d s h e = led-named n v d s h (rw e at (lookup-led n v p (parts p k) h))
-
-module _ (v : Bytes) (s : ℕ) (off : s ≡ volume → ⊥) where
-  pub sort-at : sort v s ≡ sortOf (v (at s) / 16)
-  unfolding sort
-  sort-at = rw (ne-eqb s volume off, sort) refl
-
-  pub field-at : (o r : ℕ) → field v s o r ≡ word v (at s + o)
-  unfolding field
-  field-at o r = rw (ne-eqb s volume off, field) refl
-
-  pub ftype-at : ftype v s ≡ v (at s + 0x10)
-  unfolding ftype
-  ftype-at = rw (ne-eqb s volume off, ftype) refl
-
-  pub eof-at : eof v s ≡ long v (at s + 0x15)
-  unfolding eof
-  eof-at = rw (ne-eqb s volume off, eof) refl
 
 sort-high : (c : ℕ) → 4 ≤ c → sortOf c ≡ elim (eqb c 13) as (λ _. Sort) [ true ↦ directory | false ↦ improper ]
 unfolding sortOf
@@ -119,7 +103,7 @@ height-small e = go (leb e 512) (leb e 131072)
 module _ (v : Bytes) (d s : ℕ) (w : Named v d s) (off : s ≡ volume → ⊥) where
   pub kind-is : entryOf v (at s) .kind ≡ kindOf (sort v s) (key v s)
   unfolding entryOf entryWith
-  kind-is = rw (sort-at v s off, field-at v s off 0x11 volumeBlock) refl
+  kind-is = rw (sort-at v s off, field-at v s 0x11 volumeBlock off) refl
 
   pub folder-is : isFolder (entryOf v (at s) .kind) ≡ isDirectory (sort v s)
   folder-is = ap isFolder kind-is ∙ folder-sort (sort v s) (key v s) (w .active) (w .proper)

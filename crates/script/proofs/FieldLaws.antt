@@ -10,7 +10,7 @@ use Rattle.model.specs.Bytes.{Bytes, paste, from, equalBytes, _and_, within}
 use Rattle.model.proofs.TestLaws.{and-off}
 use Rattle.model.proofs.ByteLaws.{at-or-off, paste-none}
 use Rattle.model.proofs.Laws.Spelling.{within-in}
-use Rattle.script.specs.Fields.{largest, bad, textMost, equals, placeOf, isWord, digitValue, decimalFrom, numberValue, halfValue, pairValue, byteValue, allPairs, pairs, pairsSize, allPlain, plainSize, isDash, dataSize, textSize, textBytes, sized}
+use Rattle.script.specs.Fields.{largest, bad, textMost, equals, isWord, digitValue, decimalFrom, numberValue, halfValue, pairValue, byteValue, allPairs, pairs, pairsSize, allPlain, plainSize, isDash, dataSize, textSize, textBytes, sized}
 
 -- a number is at most another, or above it
 pub most-or-more : {P : Type 0} (a b : ℕ) → (a ≤ b → P) → (b < a → P) → P
@@ -26,21 +26,6 @@ within-out low high x n =
     most-or-more low x
     (λ p. most-or-more x high (λ q. absurd (n p q)) (λ q. rw (lt-leb x high q, and-off)))
     (λ p. rw (lt-leb low x p))
-
--- the place of a byte
-module _ (s : Bytes) (c a : ℕ) where
-  pub place-here : (k : ℕ) → s a ≡ c → placeOf s c a k ≡ a
-  unfolding placeOf
-  place-here zero h = refl
-  place-here (suc k) h = rw (eq-eqb _ _ h, placeOf)
-
-  pub place-more : (k m : ℕ) → k ≡ suc m → (s a ≡ c → ⊥) → placeOf s c a k ≡ placeOf s c (a + 1) m
-  unfolding placeOf
-  place-more k m e h = rw (e, ne-eqb _ _ h, placeOf)
-
-  pub place-none : placeOf s c a 0 ≡ a
-  unfolding placeOf
-  place-none = refl
 
 -- a line's word
 module _ (s : Bytes) (n e : ℕ) (w : Bytes) (k : ℕ) where

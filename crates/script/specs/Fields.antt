@@ -4,7 +4,7 @@ use mathlib.Core.Path.{_≡_}
 use mathlib.Core.List.{List}
 use mathlib.Core.Bool.{Bool, true, false}
 use lib.Dec.{leb, ltb, eqb}
-use Rattle.model.specs.Bytes.{Bytes, view, put, paste, from, equalBytes, _and_, within}
+use Rattle.model.specs.Bytes.{Bytes, view, put, paste, from, equalBytes, placeOf, _and_, within}
 use Rattle.model.specs.Catalog.{space′}
 
 -- "No number in a script is larger": any larger value says that a field is bad.
@@ -18,11 +18,7 @@ bad = 4294967296
 abbrev pub textMost : ℕ
 textMost = 128
 
--- The first place that has the byte c, or the end: among the k bytes from a on, and among those of a whole line.
-unfoldable pub placeOf : Bytes → ℕ → ℕ → ℕ → ℕ
-placeOf s c a zero = a
-placeOf s c a (suc k) = elim (eqb (s a) c) [ true ↦ a | false ↦ placeOf s c (a + 1) k ]
-
+-- the first place from a on in the whole line that has the byte c, or its end
 abbrev pub endAt : Bytes → ℕ → ℕ → ℕ → ℕ
 endAt s n c a = placeOf s c a (n - a)
 

@@ -34,36 +34,20 @@ const MOST_DIGITS: usize = 10;
 
 const NOWHERE: usize = usize::MAX;
 
-// The first place from `from` on that has a byte, or the end.
-fn place_of(s: &[u8], from: usize, byte: u8) -> usize
-    requires { ⌜ from ≤ length (now s) ⌝ }
-    ensures { λ r. ⌜ r ≡ endAt (view (now (s .entry))) (length (now (s .entry))) byte from ⌝ }
-    ensures { λ r. ⌜ (from ≤ r) × (r ≤ length (now (s .entry))) ⌝ }
-{
-    let mut at = from;
-    while at < s.len() {
-        if s[at] == byte {
-            return at;
-        }
-        at += 1;
-    }
-    at
-}
-
 // Where the line that starts at a place ends.
 pub fn line_end(script: &[u8], start: usize) -> usize
     requires { ⌜ start ≤ length (now script) ⌝ }
     ensures { λ r. ⌜ r ≡ endAt (view (now (script .entry))) (length (now (script .entry))) newline start ⌝ }
     ensures { λ r. ⌜ (start ≤ r) × (r ≤ length (now (script .entry))) ⌝ }
 {
-    place_of(script, start, NEWLINE)
+    store::place_of(script, start, NEWLINE)
 }
 
 // Where a line's word, which names the command, ends.
 pub fn word_end(line: &[u8]) -> usize
     ensures { λ r. ⌜ r ≡ endAt (view (now (line .entry))) (length (now (line .entry))) space′ 0 ⌝ }
 {
-    place_of(line, 0, SPACE)
+    store::place_of(line, 0, SPACE)
 }
 
 // Is the line's word, which ends at `end`, this one?
@@ -333,7 +317,7 @@ fn read_field(
         return NOWHERE;
     }
     let start = at + 1;
-    let end = place_of(line, start, SPACE);
+    let end = store::place_of(line, start, SPACE);
     let value = take_field(line, start, end, form, room, buffer);
     if LARGEST < value {
         return NOWHERE;

@@ -1,9 +1,9 @@
 // Bytes, numbers and runs in a slice, read and written: what every other crate does to an image.
 // Each contract says the whole slice afterwards, as bytes by address (specs/Bytes.antt of model).
 ghost use mathlib.Core.Path.{_≡_};
-ghost use Prim.Native.Nat.{_+_, _*_, _≤_, _<_, min, max};
+ghost use Prim.Native.Nat.{_+_, _-_, _*_, _≤_, _<_, min, max};
 ghost use lib.ListN.{length};
-ghost use Rattle.model.specs.Bytes.{view, put, paste, from, clear, putWord, putLong, word, long, equalBytes};
+ghost use Rattle.model.specs.Bytes.{view, put, paste, from, clear, putWord, putLong, word, long, equalBytes, placeOf};
 ghost use Rattle.model.specs.Map.{allZero};
 ghost use Rattle.model.specs.File.{pointer};
 
@@ -125,4 +125,20 @@ pub fn all_zero(s: &[u8], at: usize, k: usize) -> bool
         zeros += 1;
     }
     true
+}
+
+// The first place from `start` on that has a byte, or the end.
+pub fn place_of(s: &[u8], start: usize, byte: u8) -> usize
+    requires { ⌜ start ≤ length (now s) ⌝ }
+    ensures { λ r. ⌜ r ≡ placeOf (view (now (s .entry))) byte start (length (now (s .entry)) - start) ⌝ }
+    ensures { λ r. ⌜ (start ≤ r) × (r ≤ length (now (s .entry))) ⌝ }
+{
+    let mut at = start;
+    while at < s.len() {
+        if s[at] == byte {
+            return at;
+        }
+        at += 1;
+    }
+    at
 }

@@ -13,6 +13,7 @@ use Rattle.model.specs.Names.{Part, part, slash, nameMost, pathMost, nam
 use Rattle.model.specs.Directory.{Sort, inactive, directory, improper, file, sort, isActive, isDirectory, at, volume, kids, seek, Target, noVolume, noDirectory, missing, there, last, along, lookup}
 use Rattle.model.specs.Refusals.{Row, row, first}
 use Rattle.model.specs.Calls.{isNoVolume, isNoDirectory, isMissing, isThere, home, spot, target, lastPart}
+use Rattle.model.proofs.ByteLaws.{place-upto}
 use Rattle.model.proofs.RefusalLaws.{first-applies, first-passes}
 use Rattle.model.proofs.SumLaws.{is-self}
 use Rattle.model.proofs.Laws.Grow.{Way, here, way-step}
@@ -158,15 +159,6 @@ module _ {n : ℕ} {v : Bytes} (S : Sound n v) (p : Bytes) where
   target-led k = lookup-led (parts p k)
 
 -- "A path has 1 to 64 bytes": and so at most 32 names.
-end-most : (p : Bytes) (a k : ℕ) → nameEnd p a k ≤ a + k
-unfolding nameEnd
-end-most p a zero = omega arith
-end-most p a (suc k) = go (eqb (p a) slash) (end-most p (a + 1) k)
-  where
-    go : (b : Bool) → nameEnd p (a + 1) k ≤ a + 1 + k → elim b as (λ _. ℕ) [ true ↦ a | false ↦ nameEnd p (a + 1) k ] ≤ a + suc k
-    go true h = omega arith
-    go false h = omega arith
-
 proper-first : (p : Bytes) (x : Part) (xs : List Part) → properParts p (x ∷ xs) ≡ true
     → (properName p (x .start) (x .size) ≡ true) × (properParts p xs ≡ true)
 unfolding properParts
@@ -203,7 +195,7 @@ parts-most p n a (suc k) l e = go (ltb a n) refl e (parts-most p n (nameEnd p (a
     go true f g r =
         let h = proper-first p _ _ g in
         let t = ltb-true a n f in
-        let m = end-most p (a + 1) (n - (a + 1)) in
+        let m = place-upto p slash (a + 1) (n - (a + 1)) in
         let q = name-some p _ _ (h .0) .0 in
         let i = r (omega arith) (h .1) in
         omega arith

@@ -16,15 +16,15 @@ shared-slice-read-if1 c = search needs
 wide-requires : tie.Need-wide-requires
 wide-requires c κs = search needs
 
-are-same-bytes-requires : tie.Need-are-same-bytes-requires
-are-same-bytes-requires c κs = search needs
+same-bytes-requires : tie.Need-same-bytes-requires
+same-bytes-requires c κs = search needs
 
 returns : tie.Need-returns
 unfolding alikeNames _and_
 returns c =
     let a = c .before .before .before .before .before .before .before .args in
     rw (eq-eqb _ _ (c .before .before .if1 .taken))
-    (c .are-same-bytes .ensures ∙ ap (equalBytes (view (a .a .now)) 1 (view (a .b .now)) 1) (c .before .wide .ensures))
+    (c .same-bytes .ensures ∙ ap (equalBytes (view (a .a .now)) 1 (view (a .b .now)) 1) (c .before .wide .ensures))
 
 returns-2 : tie.Need-returns-2
 unfolding alikeNames _and_
@@ -37,6 +37,6 @@ alike-spec =
     shared-slice-read-n
     shared-slice-read-if1
     wide-requires
-    are-same-bytes-requires
+    same-bytes-requires
     returns
     returns-2)

@@ -3,7 +3,7 @@ use mathlib.Core.Path.{sym, ap, _∙_}
 use Prim.Native.Nat.{ℕ, _+_}
 use native.Mathlib.Omega.{arith}
 use Rattle.model.specs.Bytes.{view, word}
-use Rattle.directory.proofs.SlotLaws.{field-entry}
+use Rattle.model.proofs.Laws.Keep.{field-at}
 use Rattle.checks.proofs.Laws.{slot-in}
 use Rattle.sound.proofs.WorkLaws.{field-volume}
 use borrow.Author.Needs.{needs}
@@ -28,7 +28,7 @@ returns-2 c =
     let v = view (a .img .now) in
     c .get-word .ensures .0
     ∙ ap (λ (x : ℕ). word v (x + 0x25)) (c .before .address .ensures)
-    ∙ sym (field-entry v (a .place) (c .before .before .if1 .left) 0x25 2)
+    ∙ sym (field-at v (a .place) 0x25 2 (c .before .before .if1 .left))
 
 pub home-of-spec : {M : Type 1} → statement M
 home-of-spec =

@@ -21,13 +21,13 @@ shared-slice-read-if2 c = search needs
 add-start : tie.Need-add-start
 add-start c = search needs
 
-end-of-requires : tie.Need-end-of-requires
-end-of-requires c κs = search needs
+place-of-requires : tie.Need-place-of-requires
+place-of-requires c κs = search needs
 
 is-proper-between-requires : tie.Need-is-proper-between-requires
 is-proper-between-requires c κs =
     let s = c .before .before .before .before .before .args in
-    let e = c .end-of .ensures in
+    let e = c .place-of .ensures .0 in
     let x : stepEnd (view (s .path .now)) (length (s .path .now)) (s .self .at) ≤ length (s .path .now) = step-fits _ _ _ (omega arith) in
     let y : s .self .at + 1 ≤ stepEnd (view (s .path .now)) (length (s .path .now)) (s .self .at) = step-after _ _ _ in
     (omega arith, omega arith)
@@ -37,15 +37,15 @@ unfolding properStep _and_
 returns-2 c =
     let s = c .before .before .before .before .before .before .before .args in
     let q : properStep (view (s .path .now)) (length (s .path .now)) (s .self .at) ≡ true =
-    rw (eq-eqb _ _ (c .before .before .before .if2 .taken), ← c .before .before .end-of .ensures) (sym (c .before .is-proper-between .ensures) ∙ c .if3 .taken) in
-    rw (c .before .before .end-of .ensures) (sym (step-name _ _ _ (omega arith) q))
+    rw (eq-eqb _ _ (c .before .before .before .if2 .taken), ← c .before .before .place-of .ensures .0) (sym (c .before .is-proper-between .ensures) ∙ c .if3 .taken) in
+    rw (c .before .before .place-of .ensures .0) (sym (step-name _ _ _ (omega arith) q))
 
 returns-3 : tie.Need-returns-3
 unfolding properStep _and_
 returns-3 c =
     let s = c .before .before .before .before .before .before .before .args in
     let q : properStep (view (s .path .now)) (length (s .path .now)) (s .self .at) ≡ false =
-    rw (eq-eqb _ _ (c .before .before .before .if2 .taken), ← c .before .before .end-of .ensures) (sym (c .before .is-proper-between .ensures) ∙ c .if3 .left) in
+    rw (eq-eqb _ _ (c .before .before .before .if2 .taken), ← c .before .before .place-of .ensures .0) (sym (c .before .is-proper-between .ensures) ∙ c .if3 .left) in
     sym (step-bad _ _ _ (omega arith) q)
 
 returns-4 : tie.Need-returns-4
@@ -62,7 +62,7 @@ step-spec =
     returns
     shared-slice-read-if2
     add-start
-    end-of-requires
+    place-of-requires
     is-proper-between-requires
     returns-2
     returns-3

@@ -1,20 +1,19 @@
--- `script::place_of` meets its contract: the place is that from each byte passed on. Assumes nothing.
+-- `store::place_of` meets its contract: the place is that from each byte passed on. Assumes nothing.
 use mathlib.Core.Path.{_≡_, refl, sym, _∙_}
 use Prim.Native.Nat.{suc, _+_, _-_, _≤_}
 use native.Mathlib.Omega.{arith}
 use lib.ListN.{length}
-use Rattle.model.specs.Bytes.{view}
-use Rattle.script.specs.Fields.{placeOf}
-use Rattle.script.proofs.FieldLaws.{place-here, place-more, place-none}
+use Rattle.model.specs.Bytes.{view, placeOf}
+use Rattle.model.proofs.ByteLaws.{place-here, place-more, place-none}
 use borrow.Author.Needs.{needs}
-use Rattle.script.proofs.place_of.Statement.{statement}
-use Rattle.script.proofs.place_of.Tie as tie
+use Rattle.store.proofs.place_of.Statement.{statement}
+use Rattle.store.proofs.place_of.Tie as tie
 
 abbrev Inv-loop : tie.InvT-loop
-Inv-loop s from byte at₀ at = (from ≤ at) × (at ≤ length s) × (placeOf (view s) byte at (length s - at) ≡ placeOf (view s) byte from (length s - from))
+Inv-loop s start byte at₀ at = (start ≤ at) × (at ≤ length s) × (placeOf (view s) byte at (length s - at) ≡ placeOf (view s) byte start (length s - start))
 
 abbrev μ-loop : tie.MeasureT-loop
-μ-loop s from byte at₀ at = length s - at
+μ-loop s start byte at₀ at = length s - at
 
 loop-holds : tie.Need-loop-holds Inv-loop μ-loop
 loop-holds c = (omega arith, omega arith, refl)
