@@ -4,20 +4,19 @@ use mathlib.Core.Path.{_≡_, refl, sym, ap, _∙_, fun-ext}
 use mathlib.Core.List.{List, [], _∷_, _++_}
 use mathlib.Core.Bool.{Bool, true, false}
 use native.Mathlib.Omega.{arith}
-use lib.Dec.{leb, ltb, eqb}
+use lib.Dec.{eqb}
 use lib.ListN.{length, getD, replicate, take, drop, List·getD-eq-default}
 use borrow.Author.Tests.{le-leb, lt-leb, lt-ltb, le-ltb, eq-eqb, ne-eqb}
 use Rattle.model.specs.Bytes.{Bytes, view, paste, from, zeros, clear, _and_, _or_}
 use Rattle.model.specs.Catalog.{newline, space′}
 use Rattle.model.proofs.ByteLaws.{paste-by, view-read, length-part, view-part}
-use Rattle.ink.specs.Ink.{Sheet, sheet, emit, Prints}
+use Rattle.ink.specs.Ink.{Sheet, sheet, Prints}
 use Rattle.ink.specs.declared.Ink.{Ink}
-use Rattle.ink.proofs.InkLaws.{_then_, prints-none}
-use Rattle.script.specs.Fields.{Fields, endAt, isWord, readFields, Takes}
+use Rattle.ink.proofs.InkLaws.{_then_}
+use Rattle.script.specs.Fields.{endAt, isWord, readFields, Takes}
 use Rattle.replies.specs.Lines.{okLine, badLine}
-use Rattle.commands.specs.Scenes.{Scene, scene, asked, cut}
+use Rattle.commands.specs.Scenes.{scene, asked, cut}
 use Rattle.commands.specs.Scenes as scenes
-use Rattle.commands.specs.Commands.{says}
 use Rattle.commands.specs.declared.Said.{Said}
 use Rattle.changes.specs.Changes.{changed}
 use Rattle.player.specs.Played.{Rooms, Stage, After, sceneOf, refused, renewed, onImage, commanded, isSilent, ready, printed, pageOf, played, playedFrom, playedAll, staged, rooms, Holds, stage, Leaves}
@@ -30,7 +29,7 @@ view-cut xs a k h =
     (λ i l. let e : 0 + i ≡ i = omega arith in rw e (view-read xs a k i l))
     (λ i n. List·getD-eq-default (take k (drop a xs)) 0 (omega (arith, length-part xs a k h, n (omega arith))))
 
-pub view-zeros : (m : ℕ) → view (replicate {A = ℕ} m 0) ≡ zeros
+view-zeros : (m : ℕ) → view (replicate {A = ℕ} m 0) ≡ zeros
 view-zeros m = fun-ext (go m)
   where
     go : (m i : ℕ) → getD {A = ℕ} (replicate m 0) i 0 ≡ 0
@@ -66,11 +65,12 @@ pub leaves-as : {o u : After} {s : Sheet} {r : Told} {i b p : List ℕ} → o �
 leaves-as e l = rw e l
 
 -- The fields that were read, into values and a room of zeros, are those of the scene.
-pub takes-asked : (r : Rooms) (s : Bytes) (n : ℕ) (t : Stage) (at : ℕ) (good : Bool) (blank room vs texts b : List ℕ)
-    → at ≡ endAt s n space′ 0 → view blank ≡ zeros → view room ≡ zeros
-    → Takes (readFields s n (r .buffer) (view (78 ∷ [])) 0 1 (record { at = at; values = view blank; room = view room; buffer = t .buffer })) n good vs texts b
+pub takes-asked : (r : Rooms) (s : Bytes) (n : ℕ) (t : Stage) (at : ℕ) (good : Bool) (vs texts b : List ℕ) → at ≡ endAt s n space′ 0
+    → Takes (readFields s n (r .buffer) (view (78 ∷ [])) 0 1
+    (record { at = at; values = view (replicate {A = ℕ} 8 0); room = view (replicate {A = ℕ} 256 0); buffer = t .buffer })) n good vs texts b
     → Takes (asked (sceneOf r s n t) (78 ∷ [])) n good vs texts b
-takes-asked r s n t at good blank room vs texts b e p q k = rw (e, p, q) at k
+takes-asked r s n t at good vs texts b e k =
+    rw e at (rw (view-zeros 256) at (rw (view-zeros 8) at k))
 
 -- A new image: a bad line, one that is too large, and one that is made.
 module _ (r : Rooms) (s : Bytes) (n unit : ℕ) (t : Stage) (good : Bool) (vs texts b : List ℕ) (k : Takes (asked (sceneOf r s n t) (78 ∷ [])) n good vs texts b) where
@@ -204,16 +204,39 @@ module _ (r : Rooms) (s : Bytes) (n : ℕ) where
   unfolding playedFrom
   rest-none a x t h l = let f : n + 1 - x ≡ suc (n - x) = omega arith in rw (f, le-ltb a n h, playedFrom)
 
-  pub rest-last : (a e x : ℕ) (t : Stage) → a < n → x ≤ a → e ≡ endAt s n newline a → e ≡ n → rest a x t ≡ turn a e x t
+  rest-last : (a e x : ℕ) (t : Stage) → a < n → x ≤ a → e ≡ endAt s n newline a → e ≡ n → rest a x t ≡ turn a e x t
   unfolding playedFrom
   rest-last a e x t h l p q = let f : n + 1 - x ≡ suc (n - x) = omega arith in rw (p, f, lt-ltb a n h, eq-eqb (endAt s n newline a) n (sym p ∙ q), playedFrom)
 
-  pub rest-more : (a e x : ℕ) (t : Stage) → a < n → x ≤ a → e ≡ endAt s n newline a → (e ≡ n → ⊥) → rest a x t ≡ rest (e + 1) (x + 1) (turn a e x t)
+  rest-more : (a e x : ℕ) (t : Stage) → a < n → x ≤ a → e ≡ endAt s n newline a → (e ≡ n → ⊥) → rest a x t ≡ rest (e + 1) (x + 1) (turn a e x t)
   unfolding playedFrom
   rest-more a e x t h l p q =
       let f : n + 1 - x ≡ suc (n - x) = omega arith in
       let g : n + 1 - (x + 1) ≡ n - x = omega arith in
       rw (p, f, g, lt-ltb a n h, ne-eqb (endAt s n newline a) n (λ z. q (p ∙ z)), playedFrom)
+
+  pub rest-all : (t : Stage) → rest 0 0 t ≡ playedFrom r s n (n + 1) 0 0 t
+  rest-all t = let f : n + 1 - 0 ≡ n + 1 = omega arith in rw f
+
+-- A turn of the loop: the line is lent as a part of the text, and the rooms have kept their lengths.
+module _ (text i₀ b₀ p₀ i b p : List ℕ) (a e x : ℕ) (t u : Stage) (image : length i ≡ length i₀) (buffer : length b ≡ length b₀) (page : length p ≡ length p₀)
+    (starts : a ≤ e) (ends : e ≤ length text)
+    (line : u ≡ played (rooms i b p) (view (take (e - a) (drop a text))) (length (take (e - a) (drop a text))) (x + 1) t) where
+  turned : u ≡ turn (rooms i₀ b₀ p₀) (view text) (length text) a e x t
+  turned =
+      line
+      ∙ rw (image, buffer, page, length-part text a (e - a) (omega arith), view-cut text a (e - a) (omega arith))
+
+  module _ (all : Stage) (inside : a < length text) (counted : x ≤ a) (found : e ≡ endAt (view text) (length text) newline a)
+      (so-far : rest (rooms i₀ b₀ p₀) (view text) (length text) a x t ≡ all) where
+    pub turn-last : e ≡ length text → u ≡ all
+    turn-last h = turned ∙ sym (rest-last (rooms i₀ b₀ p₀) (view text) (length text) a e x t inside counted found h) ∙ so-far
+
+    pub turn-again : (e ≡ length text → ⊥) → rest (rooms i₀ b₀ p₀) (view text) (length text) (e + 1) (x + 1) u ≡ all
+    turn-again h =
+        ap (rest (rooms i₀ b₀ p₀) (view text) (length text) (e + 1) (x + 1)) turned
+        ∙ sym (rest-more (rooms i₀ b₀ p₀) (view text) (length text) a e x t inside counted found h)
+        ∙ so-far
 
 -- The rooms at the end.
 pub holds : (t : Stage) (size used : ℕ) (i b p : List ℕ) → stage size used i b p ≡ t → Holds t i b p

@@ -9,12 +9,11 @@ use lib.ListN.{length}
 use Rattle.model.specs.Bytes.{Bytes, view, paste, clear, _and_, _or_}
 use Rattle.model.specs.Catalog.{newline, space′}
 use Rattle.ink.specs.Ink.{Sheet, sheet, emit, Prints}
-use Rattle.script.specs.Fields.{Fields, endAt}
+use Rattle.script.specs.Fields.{endAt}
 use Rattle.replies.specs.Lines.{okLine, badLine}
 use Rattle.commands.specs.Scenes.{Scene, asked, cut}
 use Rattle.commands.specs.Commands.{says}
 use Rattle.changes.specs.Changes.{changed}
-use Rattle.player.specs.declared.State.{State}
 use Rattle.player.specs.declared.After.{After as Told}
 
 -- "A line of more than 4,096 bytes [..] is bad"; no line that is printed is longer either.

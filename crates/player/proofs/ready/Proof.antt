@@ -1,3 +1,4 @@
+-- `player::ready` meets its contract: each return is a case of the definition. Assumes nothing.
 use Prim.Native.Nat.{ℕ}
 use Rattle.player.proofs.PlayedLaws.{ready-same, ready-empty}
 use Rattle.ink.specs.declared.Ink.{Ink}
@@ -5,9 +6,6 @@ use mathlib.Core.Path.{ap}
 use borrow.Author.Needs.{needs}
 use Rattle.player.proofs.ready.Statement.{statement}
 use Rattle.player.proofs.ready.Tie as tie
-use Rattle.player.proofs.ready.Reads as reads
-use Rattle.player.proofs.ready.Lts as lts
-use Rattle.player.proofs.flush.Reads as flush-reads
 
 -- a page in use up to a place
 abbrev top : ℕ → Ink
@@ -16,15 +14,12 @@ top k = record { skip = 0; at = k }
 sub-if1 : tie.Need-sub-if1
 sub-if1 c = search needs
 
--- src/lib.rt:161:9
 returns : tie.Need-returns
 returns c = ap (λ k. top k) (ready-same _ (c .if1 .taken))
 
--- src/lib.rt:163:5
 flush-requires : tie.Need-flush-requires
 flush-requires c κs = search needs
 
--- src/lib.rt:157:1
 returns-2 : tie.Need-returns-2
 returns-2 c = ap (λ k. top k) (ready-empty _ (c .before .if1 .left))
 
