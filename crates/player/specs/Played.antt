@@ -8,12 +8,13 @@ use lib.Dec.{leb, ltb, eqb}
 use lib.ListN.{length}
 use Rattle.model.specs.Bytes.{Bytes, view, paste, clear, _and_, _or_}
 use Rattle.model.specs.Catalog.{newline, space′}
-use Rattle.ink.specs.Ink.{Sheet, emit}
-use Rattle.script.specs.Fields.{Fields, endAt}
+use Rattle.ink.specs.Ink.{Sheet, sheet, emit, Prints}
+use Rattle.script.specs.Fields.{endAt}
 use Rattle.replies.specs.Lines.{okLine, badLine}
 use Rattle.commands.specs.Scenes.{Scene, asked, cut}
 use Rattle.commands.specs.Commands.{says}
 use Rattle.changes.specs.Changes.{changed}
+use Rattle.player.specs.declared.After.{After as Told}
 
 -- "A line of more than 4,096 bytes [..] is bad"; no line that is printed is longer either.
 abbrev pub lineMost : ℕ
@@ -145,3 +146,15 @@ pub record Holds (t : Stage) (i b p : List ℕ) : Type 0 where
   pub image : view i ≡ t .image
   pub buffer : view b ≡ t .buffer
   pub page : view p ≡ t .page
+
+-- The stage of an image of so many bytes, in the rooms as they are.
+abbrev pub stage : ℕ → ℕ → List ℕ → List ℕ → List ℕ → Stage
+stage size used i b p = record { size = size; image = view i; buffer = view b; page = view p; used = used }
+
+-- A command that had the page s left this: its answer, the image, the buffer and the page.
+pub record Leaves (o : After) (s : Sheet) (r : Told) (i b p : List ℕ) : Type 0 where
+  pub size : r .size ≡ o .size
+  pub good : r .good ≡ o .good
+  pub image : view i ≡ o .image
+  pub buffer : view b ≡ o .buffer
+  pub page : Prints (o .text) s (sheet (r .ink) p)

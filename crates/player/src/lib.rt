@@ -1,8 +1,13 @@
 // Plays a script of docs/REPLAY.md on one image, and prints a line for each command.
 // What is printed gathers on a page and is written out in large pieces.
+ghost use mathlib.Core.Path.{_≡_};
+ghost use Prim.Native.Nat.{_≤_};
 ghost use lib.ListN.{length};
 ghost use Rattle.model.specs.Bytes.{view};
-ghost use Rattle.player.specs.Played.{rooms, staged, Holds};
+ghost use Rattle.model.specs.Catalog.{space′};
+ghost use Rattle.ink.specs.Ink.{sheet};
+ghost use Rattle.script.specs.Fields.{endAt};
+ghost use Rattle.player.specs.Played.{rooms, stage, renewed, onImage, commanded, isSilent, ready as readyAt, played, playedAll, staged, Leaves, Holds};
 use ink::Ink;
 use libc::STDOUT_FILENO;
 use script::FIELDS;
@@ -47,7 +52,11 @@ fn renew(
     page: &mut [u8],
     ink: Ink,
     size: usize,
-) -> After {
+) -> After
+    requires { ⌜ (length (now line) ≤ 4096) × (unit ≤ 512) × (size ≤ length (now image)) × (at ≡ endAt (view (now line)) (length (now line)) space′ 0) ⌝ }
+    ensures { λ r. ⌜ Leaves (renewed (rooms (now (image .entry)) (now (buffer .entry)) (now (page .entry))) (view (now (line .entry))) (length (now (line .entry))) unit (stage size (ink .at) (now (image .entry)) (now (buffer .entry)) (now (page .entry)))) (sheet ink (now (page .entry))) r (now (image .exit)) (now (buffer .exit)) (now (page .exit)) ⌝ }
+    ensures { λ r. ⌜ r .size ≤ length (now (image .entry)) ⌝ }
+{
     let mut values = [0usize; FIELDS];
     let mut room = [0u8; ROOM];
     if !script::read_fields(line, at, b"N", &mut values, &mut room, buffer) {
@@ -82,11 +91,16 @@ fn on_image(
     page: &mut [u8],
     ink: Ink,
     size: usize,
-) -> After {
+) -> After
+    requires { ⌜ (length (now line) ≤ 4096) × (size ≤ length (now image)) × (at ≡ endAt (view (now line)) (length (now line)) space′ 0) ⌝ }
+    ensures { λ r. ⌜ Leaves (onImage (rooms (now (image .entry)) (now (buffer .entry)) (now (page .entry))) (view (now (line .entry))) (length (now (line .entry))) (stage size (ink .at) (now (image .entry)) (now (buffer .entry)) (now (page .entry)))) (sheet ink (now (page .entry))) r (now (image .exit)) (now (buffer .exit)) (now (page .exit)) ⌝ }
+    ensures { λ r. ⌜ r .size ≤ length (now (image .entry)) ⌝ }
+{
     let said = changes::run(line, at, &mut image[0..size], buffer, page, ink);
+    let told = said.ink;
     After {
         size,
-        ink: said.ink,
+        ink: told,
         good: said.good,
     }
 }
@@ -98,7 +112,11 @@ fn command(
     page: &mut [u8],
     ink: Ink,
     size: usize,
-) -> After {
+) -> After
+    requires { ⌜ size ≤ length (now image) ⌝ }
+    ensures { λ r. ⌜ Leaves (commanded (rooms (now (image .entry)) (now (buffer .entry)) (now (page .entry))) (view (now (line .entry))) (length (now (line .entry))) (stage size (ink .at) (now (image .entry)) (now (buffer .entry)) (now (page .entry)))) (sheet ink (now (page .entry))) r (now (image .exit)) (now (buffer .exit)) (now (page .exit)) ⌝ }
+    ensures { λ r. ⌜ r .size ≤ length (now (image .entry)) ⌝ }
+{
     if LONGEST_LINE < line.len() {
         return After {
             size,
@@ -117,7 +135,9 @@ fn command(
 }
 
 // Does a line print nothing: is it empty, or a comment?
-fn is_silent(line: &[u8]) -> bool {
+fn is_silent(line: &[u8]) -> bool
+    ensures { λ r. ⌜ r ≡ isSilent (view (now (line .entry))) (length (now (line .entry))) ⌝ }
+{
     if line.len() == 0 {
         return true;
     }
@@ -135,7 +155,9 @@ fn flush(page: &[u8], used: usize) {
 }
 
 // A page with room for a line: the one in use, or the same written out.
-fn ready(page: &[u8], used: usize) -> Ink {
+fn ready(page: &[u8], used: usize) -> Ink
+    ensures { λ r. ⌜ r ≡ record { skip = 0; at = readyAt used } ⌝ }
+{
     if used <= PAGE - LONGEST_LINE {
         return Ink { skip: 0, at: used };
     }
@@ -150,7 +172,11 @@ fn play_line(
     buffer: &mut [u8],
     page: &mut [u8],
     state: State,
-) -> State {
+) -> State
+    requires { ⌜ state .size ≤ length (now image) ⌝ }
+    ensures { λ r. ⌜ stage (r .size) (r .used) (now (image .exit)) (now (buffer .exit)) (now (page .exit)) ≡ played (rooms (now (image .entry)) (now (buffer .entry)) (now (page .entry))) (view (now (line .entry))) (length (now (line .entry))) number (stage (state .size) (state .used) (now (image .entry)) (now (buffer .entry)) (now (page .entry))) ⌝ }
+    ensures { λ r. ⌜ r .size ≤ length (now (image .entry)) ⌝ }
+{
     if is_silent(line) {
         return state;
     }
@@ -170,7 +196,10 @@ fn play_line(
 }
 
 // Plays each line; the bytes of the page in use at the end.
-fn play_lines(text: &[u8], image: &mut [u8], buffer: &mut [u8], page: &mut [u8]) -> usize {
+fn play_lines(text: &[u8], image: &mut [u8], buffer: &mut [u8], page: &mut [u8]) -> usize
+    ensures { λ r. ⌜ Holds (playedAll (rooms (now (image .entry)) (now (buffer .entry)) (now (page .entry))) (view (now (text .entry))) (length (now (text .entry))) (view (now (image .entry))) (view (now (buffer .entry))) (view (now (page .entry)))) (now (image .exit)) (now (buffer .exit)) (now (page .exit)) ⌝ }
+    ensures { λ r. ⌜ r ≡ (playedAll (rooms (now (image .entry)) (now (buffer .entry)) (now (page .entry))) (view (now (text .entry))) (length (now (text .entry))) (view (now (image .entry))) (view (now (buffer .entry))) (view (now (page .entry)))) .used ⌝ }
+{
     let mut state = State { size: 0, used: 0 };
     let mut at = 0;
     let mut number = 0;

@@ -1,0 +1,2 @@
+-- The laws of player's definitions.
+pub mod PlayedLaws
