@@ -1,0 +1,3 @@
+-- The laws that the proofs of commands cite.
+pub mod SceneLaws
+pub mod UntilLaws

@@ -1,0 +1,119 @@
+use borrow.Author.Needs.{needs}
+use Rattle.commands.proofs.block.Statement.{statement}
+use Rattle.commands.proofs.block.Tie as tie
+use Rattle.commands.proofs.block.Reads as reads
+use Rattle.commands.proofs.block.Lts as lts
+use Rattle.commands.proofs.bad.Reads as bad-reads
+use Rattle.commands.proofs.good.Reads as good-reads
+use Rattle.replies.proofs.say_bytes.Reads as say-bytes-reads
+use Rattle.script.proofs.read_fields.Reads as read-fields-reads
+
+-- src/lib.rt:118:39
+slice-aggregate-read-fields : tie.Need-slice-aggregate-read-fields
+slice-aggregate-read-fields c = search needs
+
+-- src/lib.rt:118:45
+slice-aggregate-read-fields-2 : tie.Need-slice-aggregate-read-fields-2
+slice-aggregate-read-fields-2 c = search needs
+
+-- src/lib.rt:118:58
+slice-aggregate-read-fields-3 : tie.Need-slice-aggregate-read-fields-3
+slice-aggregate-read-fields-3 c = search needs
+
+-- src/lib.rt:118:9
+read-fields-requires : tie.Need-read-fields-requires
+read-fields-requires c κs = search needs
+
+-- src/lib.rt:119:9
+bad-requires : tie.Need-bad-requires
+bad-requires c κs = search needs
+
+-- src/lib.rt:119:9
+same-length : tie.Need-same-length
+same-length c = search needs
+
+-- src/lib.rt:119:9
+returns : tie.Need-returns
+returns c = ?
+
+-- src/lib.rt:121:17
+array-read-start : tie.Need-array-read-start
+array-read-start c = search needs
+
+-- src/lib.rt:121:17
+mul-start : tie.Need-mul-start
+mul-start c = ?
+
+-- src/lib.rt:122:15
+add-end : tie.Need-add-end
+add-end c = ?
+
+-- src/lib.rt:124:9
+bad-requires-2 : tie.Need-bad-requires-2
+bad-requires-2 c κs = search needs
+
+-- src/lib.rt:124:9
+same-length-2 : tie.Need-same-length-2
+same-length-2 c = search needs
+
+-- src/lib.rt:124:9
+returns-2 : tie.Need-returns-2
+returns-2 c = ?
+
+-- src/lib.rt:126:40
+sub-say-bytes : tie.Need-sub-say-bytes
+sub-say-bytes c = search needs
+
+-- src/lib.rt:126:40
+part-say-bytes-start : tie.Need-part-say-bytes-start
+part-say-bytes-start c = search needs
+
+-- src/lib.rt:126:40
+part-say-bytes-end : tie.Need-part-say-bytes-end
+part-say-bytes-end c = search needs
+
+-- src/lib.rt:126:10
+say-bytes-requires : tie.Need-say-bytes-requires
+say-bytes-requires c κs = search needs
+
+-- src/lib.rt:126:5
+good-requires : tie.Need-good-requires
+good-requires c κs = search needs
+
+-- src/lib.rt:112:1
+same-length-3 : tie.Need-same-length-3
+same-length-3 c = search needs
+
+-- src/lib.rt:112:1
+same-length-4 : tie.Need-same-length-4
+same-length-4 c = search needs
+
+-- src/lib.rt:112:1
+returns-3 : tie.Need-returns-3
+returns-3 c = ?
+
+pub block-spec : {M : Type 1} → statement M
+block-spec =
+    tie.close
+    (tie.spec
+    slice-aggregate-read-fields
+    slice-aggregate-read-fields-2
+    slice-aggregate-read-fields-3
+    read-fields-requires
+    bad-requires
+    same-length
+    returns
+    array-read-start
+    mul-start
+    add-end
+    bad-requires-2
+    same-length-2
+    returns-2
+    sub-say-bytes
+    part-say-bytes-start
+    part-say-bytes-end
+    say-bytes-requires
+    good-requires
+    same-length-3
+    same-length-4
+    returns-3)

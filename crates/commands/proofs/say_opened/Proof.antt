@@ -1,0 +1,89 @@
+use borrow.Author.Needs.{needs}
+use Rattle.commands.proofs.say_opened.Statement.{statement}
+use Rattle.commands.proofs.say_opened.Tie as tie
+use Rattle.commands.proofs.say_opened.Reads as reads
+use Rattle.commands.proofs.say_opened.Lts as lts
+use Rattle.commands.proofs.say_found.Reads as say-found-reads
+use Rattle.opening.proofs.opened_by.Reads as opened-by-reads
+use Rattle.replies.proofs.say_ok.Reads as say-ok-reads
+use Rattle.replies.proofs.say_refused.Reads as say-refused-reads
+
+-- src/lib.rt:234:11
+opened-by-requires : tie.Need-opened-by-requires
+opened-by-requires c κs = search needs
+
+-- src/lib.rt:235:25
+enum-known-why : tie.Need-enum-known-why
+enum-known-why c = search needs
+
+-- src/lib.rt:235:33
+say-refused-requires : tie.Need-say-refused-requires
+say-refused-requires c κs = search needs
+
+-- src/lib.rt:236:46
+enum-told : tie.Need-enum-told
+enum-told c = search needs
+
+-- src/lib.rt:236:57
+slice-aggregate-say-ok : tie.Need-slice-aggregate-say-ok
+slice-aggregate-say-ok c = search needs
+
+-- src/lib.rt:236:65
+slice-aggregate-say-ok-2 : tie.Need-slice-aggregate-say-ok-2
+slice-aggregate-say-ok-2 c = search needs
+
+-- src/lib.rt:236:30
+say-ok-requires : tie.Need-say-ok-requires
+say-ok-requires c κs = search needs
+
+-- src/lib.rt:237:26
+enum-known-home : tie.Need-enum-known-home
+enum-known-home c = search needs
+
+-- src/lib.rt:237:45
+say-found-requires : tie.Need-say-found-requires
+say-found-requires c κs = search needs
+
+-- src/lib.rt:231:1
+same-length : tie.Need-same-length
+same-length c = search needs
+
+-- src/lib.rt:231:1
+returns : tie.Need-returns
+returns c = ?
+
+-- src/lib.rt:231:1
+same-length-2 : tie.Need-same-length-2
+same-length-2 c = search needs
+
+-- src/lib.rt:231:1
+returns-2 : tie.Need-returns-2
+returns-2 c = ?
+
+-- src/lib.rt:231:1
+same-length-3 : tie.Need-same-length-3
+same-length-3 c = search needs
+
+-- src/lib.rt:231:1
+returns-3 : tie.Need-returns-3
+returns-3 c = ?
+
+pub say-opened-spec : {M : Type 1} → statement M
+say-opened-spec =
+    tie.close
+    (tie.spec
+    opened-by-requires
+    enum-known-why
+    say-refused-requires
+    enum-told
+    slice-aggregate-say-ok
+    slice-aggregate-say-ok-2
+    say-ok-requires
+    enum-known-home
+    say-found-requires
+    same-length
+    returns
+    same-length-2
+    returns-2
+    same-length-3
+    returns-3)
