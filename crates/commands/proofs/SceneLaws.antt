@@ -1,14 +1,14 @@
 -- What a command leaves, from what reading its fields left; and parts of a slice. Assumes nothing.
 use Prim.Native.Nat.{ℕ, zero, suc, _+_, _-_, _≤_, _<_}
 use mathlib.Core.Path.{_≡_, refl, sym, ap, _∙_, fun-ext}
-use mathlib.Core.List.{List, []}
+use mathlib.Core.List.{List, [], _++_}
 use mathlib.Core.Bool.{Bool, true, false, not}
 use lib.Dec.{eqb}
 use lib.ListN.{length, getD, take, drop, replicate, length-take, List·getD-eq-default}
 use native.Mathlib.Omega.{arith}
 use borrow.Author.Tests.{eqb-true, not-true, not-false}
 use Rattle.model.specs.Bytes.{Bytes, view, paste, from, zeros}
-use Rattle.model.proofs.ByteLaws.{paste-by, view-read, length-part}
+use Rattle.model.proofs.ByteLaws.{paste-by, paste-at, paste-out, paste-cong, view-read, view-part, length-part}
 use Rattle.ink.specs.Ink.{Sheet, sheet, Prints}
 use Rattle.ink.specs.declared.Ink.{Ink}
 use Rattle.ink.proofs.InkLaws.{prints-none}
@@ -81,6 +81,14 @@ pub none-leaves : {said : Said} {k : Ink} {i b p : List ℕ} → said ≡ record
     → Leaves (record { good = false; text = []; image = view i; buffer = view b }) (sheet k p) said i b p
 none-leaves e = rw e (record { good = refl; image = refl; buffer = refl; page = prints-none })
 
+-- What a command leaves goes by a test.
+module _ (t : Bool) (l m : Left) {s : Sheet} {said : Said} {i b p : List ℕ} where
+  pub if-so : t ≡ true → Leaves l s said i b p → Leaves (elim t [ true ↦ l | false ↦ m ]) s said i b p
+  if-so e h = rw e h
+
+  pub if-not : t ≡ false → Leaves m s said i b p → Leaves (elim t [ true ↦ l | false ↦ m ]) s said i b p
+  if-not e h = rw e h
+
 -- The part of a slice that holds k bytes from a on.
 pub view-cut : (xs : List ℕ) (a k : ℕ) → view (take k (drop a xs)) ≡ cut (view xs) a k
 view-cut xs a k = paste-by (view (take k (drop a xs))) zeros 0 k (from (view xs) a) inside outside
@@ -90,3 +98,28 @@ view-cut xs a k = paste-by (view (take k (drop a xs))) zeros 0 k (from (view xs)
 
     outside : (i : ℕ) → (0 ≤ i → i < 0 + k → ⊥) → view (take k (drop a xs)) i ≡ 0
     outside i n = List·getD-eq-default (take k (drop a xs)) 0 (simp length-take (omega (arith, n (omega arith))))
+
+-- What holds of a part lent, from a on and of k bytes, holds of the cut.
+pub part-as : (P : Bytes → ℕ → Type 0) (xs : List ℕ) (a e k : ℕ) → e ≡ a + k → e ≤ length xs
+    → P (view (take (e - a) (drop a xs))) (length (take (e - a) (drop a xs))) → P (cut (view xs) a k) k
+part-as P xs a e k q l h =
+    let d : e - a ≡ k = omega arith in
+    rw (d, view-cut xs a k, length-part xs a k (omega arith)) at h
+
+-- a part from the start on, given back
+pub front-back : (xs ys : List ℕ) (k : ℕ) → k ≤ length xs → length ys ≡ k → view (ys ++ drop (k - 0) xs) ≡ paste (view xs) 0 k (view ys)
+front-back xs ys k h e = let d : k - 0 ≡ k = omega arith in rw d (view-part xs ys 0 k (omega arith) e)
+
+pub from-start : (f : Bytes) → from f 0 ≡ f
+from-start f = fun-ext (λ i. let e : 0 + i ≡ i = omega arith in ap f e)
+
+-- a run put down and cut out again
+pub cut-paste : (f : Bytes) (a k : ℕ) (g : Bytes) → cut (paste f a k g) a k ≡ paste zeros 0 k g
+cut-paste f a k g = paste-cong zeros 0 k (from (paste f a k g) a) g (paste-at f a k g)
+
+-- a list that is all written over
+pub paste-whole : (xs : List ℕ) (g : Bytes) → paste (view xs) 0 (length xs) g ≡ paste zeros 0 (length xs) g
+paste-whole xs g = paste-by (paste (view xs) 0 (length xs) g) zeros 0 (length xs) g (paste-at (view xs) 0 (length xs) g) outside
+  where
+    outside : (i : ℕ) → (0 ≤ i → i < 0 + length xs → ⊥) → paste (view xs) 0 (length xs) g i ≡ 0
+    outside i n = paste-out (view xs) 0 (length xs) g i n ∙ List·getD-eq-default xs 0 (omega (arith, n (omega arith)))

@@ -1,3 +1,14 @@
+use Rattle.commands.specs.Commands.{blockDoes}
+use Rattle.commands.proofs.SceneLaws.{bad-leaves, good-leaves, done-leaves, none-leaves, if-so, if-not, part-as}
+use Rattle.ink.specs.Ink.{sheet, Prints}
+use Rattle.replies.specs.Lines.{bytesLine}
+use borrow.Author.Tests.{not-false, le-leb, lt-leb}
+use Prim.Native.Nat.{_+_, _*_, _≤_}
+use Rattle.model.specs.Bytes.{view}
+use lib.ListN.{length}
+use native.Mathlib.Omega.{arith}
+use mathlib.Core.List.{[], _∷_}
+use mathlib.Core.Path.{_≡_, refl}
 use borrow.Author.Needs.{needs}
 use Rattle.commands.proofs.block.Statement.{statement}
 use Rattle.commands.proofs.block.Tie as tie
@@ -34,7 +45,12 @@ same-length c = search needs
 
 -- src/lib.rt:119:9
 returns : tie.Need-returns
-returns c = ?
+unfolding blockDoes
+returns c =
+    let b = c .before .before .before .before .before .before in
+    let a = b .before .before .before .before .before .before .before .before .before .args in
+    let l = b .read-fields .last .1 .1 .1 in
+    bad-leaves (a .line .now) (a .at) (a .img .now) (a .buffer .now) (78 ∷ []) _ (l .0) (l .1 .0) (l .1 .1 .0) _ (b .read-fields .ensures .0) (c .before .if1 .taken) (c .bad .ensures)
 
 -- src/lib.rt:121:17
 array-read-start : tie.Need-array-read-start
@@ -42,11 +58,11 @@ array-read-start c = search needs
 
 -- src/lib.rt:121:17
 mul-start : tie.Need-mul-start
-mul-start c = ?
+mul-start c = omega (arith, c .before .before .before .before .before .read-fields .ensures .1 (not-false _ (c .if1 .left)) 0 (omega arith))
 
 -- src/lib.rt:122:15
 add-end : tie.Need-add-end
-add-end c = ?
+add-end c = omega (arith, c .before .before .before .before .before .read-fields .ensures .1 (not-false _ (c .if1 .left)) 0 (omega arith))
 
 -- src/lib.rt:124:9
 bad-requires-2 : tie.Need-bad-requires-2
@@ -58,7 +74,13 @@ same-length-2 c = search needs
 
 -- src/lib.rt:124:9
 returns-2 : tie.Need-returns-2
-returns-2 c = ?
+unfolding blockDoes
+returns-2 c =
+    let b = c .before .before .before .before .before .before .before in
+    let a = b .before .before .before .before .before .before .before .before .before .args in
+    let l = b .read-fields .last .1 .1 .1 in
+    good-leaves (a .line .now) (a .at) (a .img .now) (a .buffer .now) (78 ∷ []) _ (l .0) (l .1 .0) (l .1 .1 .0) _ (b .read-fields .ensures .0) (c .before .before .if1 .left)
+    (if-not _ _ _ (lt-leb (view (l .0) 0 * 512 + 512) (length (a .img .now)) (c .before .if2 .taken)) (none-leaves (c .bad2 .ensures)))
 
 -- src/lib.rt:126:40
 sub-say-bytes : tie.Need-sub-say-bytes
@@ -90,7 +112,15 @@ same-length-4 c = search needs
 
 -- src/lib.rt:112:1
 returns-3 : tie.Need-returns-3
-returns-3 c = ?
+unfolding blockDoes
+returns-3 c =
+    let b = c .before .before .before .before .before .before .before .before .before .before .before .before in
+    let a = b .before .before .before .before .before .before .before .before .before .args in
+    let l = b .read-fields .last .1 .1 .1 in
+    good-leaves (a .line .now) (a .at) (a .img .now) (a .buffer .now) (78 ∷ []) _ (l .0) (l .1 .0) (l .1 .1 .0) _ (b .read-fields .ensures .0) (c .before .before .before .before .before .before .before .if1 .left)
+    (if-so _ _ _ (le-leb (view (l .0) 0 * 512 + 512) (length (a .img .now)) (c .before .before .before .before .before .before .if2 .left))
+    (done-leaves (c .good2 .ensures) refl refl
+    (part-as (λ f n. Prints (bytesLine f n) (sheet (a .ink) (a .page .now)) (sheet (c .before .before .before .say-bytes .result) (c .before .before .before .say-bytes .last .0))) (a .img .now) (view (l .0) 0 * 512) (view (l .0) 0 * 512 + 512) 512 refl (c .before .before .before .before .before .before .if2 .left) (c .before .before .before .say-bytes .ensures))))
 
 pub block-spec : {M : Type 1} → statement M
 block-spec =

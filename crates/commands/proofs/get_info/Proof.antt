@@ -1,3 +1,14 @@
+use Rattle.model.specs.Answers.{Tells}
+use Rattle.model.specs.Info.{getInfo}
+use Rattle.model.specs.Bytes.{view}
+use Prim.Native.Nat.{_≤_}
+use lib.ListN.{length}
+use Rattle.commands.specs.Commands.{getInfoDoes}
+use borrow.Author.Tests.{not-false}
+use Rattle.commands.proofs.SceneLaws.{bad-leaves, good-leaves, done-leaves, none-leaves, part-as}
+use native.Mathlib.Omega.{arith}
+use mathlib.Core.List.{[], _∷_}
+use mathlib.Core.Path.{_≡_, refl}
 use borrow.Author.Needs.{needs}
 use Rattle.commands.proofs.get_info.Statement.{statement}
 use Rattle.commands.proofs.get_info.Tie as tie
@@ -35,7 +46,12 @@ same-length c = search needs
 
 -- src/lib.rt:155:9
 returns : tie.Need-returns
-returns c = ?
+unfolding getInfoDoes
+returns c =
+    let b = c .before .before .before .before .before .before in
+    let a = b .before .before .before .before .before .before .before .before .before .args in
+    let l = b .read-fields .last .1 .1 .1 in
+    bad-leaves (a .line .now) (a .at) (a .img .now) (a .buffer .now) (84 ∷ []) _ (l .0) (l .1 .0) (l .1 .1 .0) _ (b .read-fields .ensures .0) (c .before .if1 .taken) (c .bad .ensures)
 
 -- src/lib.rt:157:16
 array-read-size : tie.Need-array-read-size
@@ -51,7 +67,7 @@ part-get-info-start c = search needs
 
 -- src/lib.rt:158:60
 part-get-info-end : tie.Need-part-get-info-end
-part-get-info-end c = ?
+part-get-info-end c = omega (arith, c .before .before .before .before .before .before .before .read-fields .ensures .1 (not-false _ (c .before .before .if1 .left)) 0 (omega arith))
 
 -- src/lib.rt:158:39
 get-info-requires : tie.Need-get-info-requires
@@ -75,7 +91,16 @@ same-length-3 c = search needs
 
 -- src/lib.rt:141:1
 returns-2 : tie.Need-returns-2
-returns-2 c = ?
+unfolding getInfoDoes
+returns-2 c =
+    let b = c .before .before .before .before .before .before .before .before .before .before .before .before .before in
+    let a = b .before .before .before .before .before .before .before .before .before .args in
+    let l = b .read-fields .last .1 .1 .1 in
+    let z = view (l .0) 0 in
+    let h : z ≤ length (l .1 .0) = omega (arith, b .read-fields .ensures .1 (not-false _ (c .before .before .before .before .before .before .before .before .if1 .left)) 0 (omega arith)) in
+    let t = part-as (λ f n. Tells (getInfo (length (a .img .now)) (view (a .img .now)) f n) (c .before .before .before .before .get-info .result)) (l .1 .0) 0 z z (omega arith) h (c .before .before .before .before .get-info .ensures) in
+    good-leaves (a .line .now) (a .at) (a .img .now) (a .buffer .now) (84 ∷ []) _ (l .0) (l .1 .0) (l .1 .1 .0) _ (b .read-fields .ensures .0) (c .before .before .before .before .before .before .before .before .if1 .left)
+    (done-leaves (c .good2 .ensures) refl refl (rw (t .said, t .told) at (c .before .before .before .say-info .ensures)))
 
 pub get-info-spec : {M : Type 1} → statement M
 get-info-spec =

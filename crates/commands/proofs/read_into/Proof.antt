@@ -1,3 +1,7 @@
+use Rattle.commands.proofs.IntoLaws.{read-filled, into-reads}
+use Rattle.model.specs.Bytes.{view}
+use lib.ListN.{length}
+use native.Mathlib.Omega.{arith}
 use borrow.Author.Needs.{needs}
 use Rattle.commands.proofs.read_into.Statement.{statement}
 use Rattle.commands.proofs.read_into.Tie as tie
@@ -34,7 +38,11 @@ same-length-2 c = search needs
 
 -- src/lib.rt:162:1
 returns : tie.Need-returns
-returns c = ?
+returns c =
+    let a = c .before .before .before .before .before .before .before .before .before .before .before .before .before .before .before .before .before .before .args in
+    let i = a .img .now in
+    let p = a .path .now in
+    into-reads (read-filled (length i) (view i) (view p) (length p) (a .position) 165 (a .buffer .now) (c .before .before .before .before .before .before .before .before .before .before .before .before .before .fill-run .last .0) (omega arith) (c .before .before .before .before .before .before .before .before .before .before .before .before .before .fill-run .ensures) (c .before .before .before .before .before .before .before .before .read .ensures)) (c .good2 .ensures) (c .before .before .before .say-read .ensures)
 
 pub read-into-spec : {M : Type 1} → statement M
 read-into-spec =

@@ -1,3 +1,12 @@
+use Rattle.commands.specs.Commands.{setDoes, laidIn}
+use Rattle.commands.proofs.SceneLaws.{bad-leaves, good-leaves, done-leaves, none-leaves, if-so, if-not, from-start}
+use borrow.Author.Tests.{not-false, le-leb, lt-leb}
+use Prim.Native.Nat.{_+_, _≤_}
+use Rattle.model.specs.Bytes.{view, paste}
+use lib.ListN.{length}
+use native.Mathlib.Omega.{arith}
+use mathlib.Core.List.{[], _∷_}
+use mathlib.Core.Path.{_≡_, refl, ap, _∙_}
 use borrow.Author.Needs.{needs}
 use Rattle.commands.proofs.set.Statement.{statement}
 use Rattle.commands.proofs.set.Tie as tie
@@ -35,7 +44,12 @@ same-length c = search needs
 
 -- src/lib.rt:64:9
 returns : tie.Need-returns
-returns c = ?
+unfolding setDoes
+returns c =
+    let b = c .before .before .before .before .before .before in
+    let a = b .before .before .before .before .before .before .before .before .before .args in
+    let l = b .read-fields .last .1 .1 .1 in
+    bad-leaves (a .line .now) (a .at) (a .img .now) (a .buffer .now) (78 ∷ 68 ∷ []) _ (l .0) (l .1 .0) (l .1 .1 .0) _ (b .read-fields .ensures .0) (c .before .if1 .taken) (c .bad .ensures)
 
 -- src/lib.rt:66:19
 array-read-address : tie.Need-array-read-address
@@ -47,7 +61,7 @@ array-read-count c = search needs
 
 -- src/lib.rt:68:20
 add-if2 : tie.Need-add-if2
-add-if2 c = ?
+add-if2 c = omega (arith, c .before .before .before .before .before .read-fields .ensures .1 (not-false _ (c .if1 .left)) 0 (omega arith), c .before .before .before .before .before .read-fields .ensures .1 (not-false _ (c .if1 .left)) 1 (omega arith))
 
 -- src/lib.rt:69:9
 bad-requires-2 : tie.Need-bad-requires-2
@@ -59,11 +73,17 @@ same-length-2 c = search needs
 
 -- src/lib.rt:69:9
 returns-2 : tie.Need-returns-2
-returns-2 c = ?
+unfolding setDoes laidIn
+returns-2 c =
+    let b = c .before .before .before .before .before .before .before in
+    let a = b .before .before .before .before .before .before .before .before .before .args in
+    let l = b .read-fields .last .1 .1 .1 in
+    good-leaves (a .line .now) (a .at) (a .img .now) (a .buffer .now) (78 ∷ 68 ∷ []) _ (l .0) (l .1 .0) (l .1 .1 .0) _ (b .read-fields .ensures .0) (c .before .before .if1 .left)
+    (if-not _ _ _ (lt-leb (view (l .0) 0 + view (l .0) 1) (length (a .img .now)) (c .before .if2 .taken)) (none-leaves (c .bad2 .ensures)))
 
 -- src/lib.rt:71:5
 copy-run-requires : tie.Need-copy-run-requires
-copy-run-requires c κs = ?
+copy-run-requires c κs = (omega arith, omega (arith, c .before .before .before .before .before .before .before .before .read-fields .ensures .1 (not-false _ (c .before .before .before .if1 .left)) 1 (omega arith)))
 
 -- src/lib.rt:72:37
 slice-aggregate-say-ok : tie.Need-slice-aggregate-say-ok
@@ -95,7 +115,13 @@ same-length-5 c = search needs
 
 -- src/lib.rt:57:1
 returns-3 : tie.Need-returns-3
-returns-3 c = ?
+unfolding setDoes laidIn
+returns-3 c =
+    let b = c .before .before .before .before .before .before .before .before .before .before .before .before .before .before .before .before .before .before in
+    let a = b .before .before .before .before .before .before .before .before .before .args in
+    let l = b .read-fields .last .1 .1 .1 in
+    good-leaves (a .line .now) (a .at) (a .img .now) (a .buffer .now) (78 ∷ 68 ∷ []) _ (l .0) (l .1 .0) (l .1 .1 .0) _ (b .read-fields .ensures .0) (c .before .before .before .before .before .before .before .before .before .before .before .before .before .if1 .left)
+    (if-so _ _ _ (le-leb (view (l .0) 0 + view (l .0) 1) (length (a .img .now)) (c .before .before .before .before .before .before .before .before .before .before .before .before .if2 .left)) (done-leaves (c .good2 .ensures) (c .before .before .before .before .before .before .before .before .before .copy-run .ensures ∙ ap (paste (view (a .img .now)) (view (l .0) 0) (view (l .0) 1)) (from-start (view (l .1 .1 .0)))) refl (c .before .before .before .say-ok .ensures)))
 
 pub set-spec : {M : Type 1} → statement M
 set-spec =

@@ -1,3 +1,12 @@
+use Rattle.commands.specs.Commands.{setRunDoes, laidIn}
+use Rattle.commands.proofs.SceneLaws.{bad-leaves, good-leaves, done-leaves, none-leaves, if-so, if-not}
+use borrow.Author.Tests.{not-false, le-leb, lt-leb}
+use Prim.Native.Nat.{_+_, _≤_}
+use Rattle.model.specs.Bytes.{view}
+use lib.ListN.{length}
+use native.Mathlib.Omega.{arith}
+use mathlib.Core.List.{[], _∷_}
+use mathlib.Core.Path.{_≡_, refl, _∙_}
 use borrow.Author.Needs.{needs}
 use Rattle.commands.proofs.set_run.Statement.{statement}
 use Rattle.commands.proofs.set_run.Tie as tie
@@ -35,7 +44,12 @@ same-length c = search needs
 
 -- src/lib.rt:89:9
 returns : tie.Need-returns
-returns c = ?
+unfolding setRunDoes
+returns c =
+    let b = c .before .before .before .before .before .before in
+    let a = b .before .before .before .before .before .before .before .before .before .args in
+    let l = b .read-fields .last .1 .1 .1 in
+    bad-leaves (a .line .now) (a .at) (a .img .now) (a .buffer .now) (78 ∷ 78 ∷ 66 ∷ []) _ (l .0) (l .1 .0) (l .1 .1 .0) _ (b .read-fields .ensures .0) (c .before .if1 .taken) (c .bad .ensures)
 
 -- src/lib.rt:91:19
 array-read-address : tie.Need-array-read-address
@@ -47,7 +61,7 @@ array-read-count c = search needs
 
 -- src/lib.rt:93:20
 add-if2 : tie.Need-add-if2
-add-if2 c = ?
+add-if2 c = omega (arith, c .before .before .before .before .before .read-fields .ensures .1 (not-false _ (c .if1 .left)) 0 (omega arith), c .before .before .before .before .before .read-fields .ensures .1 (not-false _ (c .if1 .left)) 1 (omega arith))
 
 -- src/lib.rt:94:9
 bad-requires-2 : tie.Need-bad-requires-2
@@ -59,7 +73,13 @@ same-length-2 c = search needs
 
 -- src/lib.rt:94:9
 returns-2 : tie.Need-returns-2
-returns-2 c = ?
+unfolding setRunDoes laidIn
+returns-2 c =
+    let b = c .before .before .before .before .before .before .before in
+    let a = b .before .before .before .before .before .before .before .before .before .args in
+    let l = b .read-fields .last .1 .1 .1 in
+    good-leaves (a .line .now) (a .at) (a .img .now) (a .buffer .now) (78 ∷ 78 ∷ 66 ∷ []) _ (l .0) (l .1 .0) (l .1 .1 .0) _ (b .read-fields .ensures .0) (c .before .before .if1 .left)
+    (if-not _ _ _ (lt-leb (view (l .0) 0 + view (l .0) 1) (length (a .img .now)) (c .before .if2 .taken)) (none-leaves (c .bad2 .ensures)))
 
 -- src/lib.rt:96:35
 array-read-fill-run : tie.Need-array-read-fill-run
@@ -67,7 +87,7 @@ array-read-fill-run c = search needs
 
 -- src/lib.rt:96:35
 cast-fill-run : tie.Need-cast-fill-run
-cast-fill-run c = ?
+cast-fill-run c = omega (arith, c .before .before .before .before .before .before .before .read-fields .ensures .1 (not-false _ (c .before .before .if1 .left)) 2 (omega arith))
 
 -- src/lib.rt:96:5
 fill-run-requires : tie.Need-fill-run-requires
@@ -103,7 +123,13 @@ same-length-5 c = search needs
 
 -- src/lib.rt:75:1
 returns-3 : tie.Need-returns-3
-returns-3 c = ?
+unfolding setRunDoes laidIn
+returns-3 c =
+    let b = c .before .before .before .before .before .before .before .before .before .before .before .before .before .before .before .before .before in
+    let a = b .before .before .before .before .before .before .before .before .before .args in
+    let l = b .read-fields .last .1 .1 .1 in
+    good-leaves (a .line .now) (a .at) (a .img .now) (a .buffer .now) (78 ∷ 78 ∷ 66 ∷ []) _ (l .0) (l .1 .0) (l .1 .1 .0) _ (b .read-fields .ensures .0) (c .before .before .before .before .before .before .before .before .before .before .before .before .if1 .left)
+    (if-so _ _ _ (le-leb (view (l .0) 0 + view (l .0) 1) (length (a .img .now)) (c .before .before .before .before .before .before .before .before .before .before .before .if2 .left)) (done-leaves (c .good2 .ensures) (c .before .before .before .before .before .before .before .before .before .fill-run .ensures) refl (c .before .before .before .say-ok .ensures)))
 
 pub set-run-spec : {M : Type 1} → statement M
 set-run-spec =

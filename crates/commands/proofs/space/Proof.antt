@@ -1,3 +1,8 @@
+use Rattle.commands.specs.Commands.{spaceDoes}
+use Rattle.commands.proofs.SceneLaws.{bad-leaves, good-leaves, done-leaves, none-leaves, part-as}
+use native.Mathlib.Omega.{arith}
+use mathlib.Core.List.{[], _∷_}
+use mathlib.Core.Path.{_≡_, refl}
 use borrow.Author.Needs.{needs}
 use Rattle.commands.proofs.space.Statement.{statement}
 use Rattle.commands.proofs.space.Tie as tie
@@ -35,7 +40,12 @@ same-length c = search needs
 
 -- src/lib.rt:136:9
 returns : tie.Need-returns
-returns c = ?
+unfolding spaceDoes
+returns c =
+    let b = c .before .before .before .before .before .before in
+    let a = b .before .before .before .before .before .before .before .before .before .args in
+    let l = b .read-fields .last .1 .1 .1 in
+    bad-leaves (a .line .now) (a .at) (a .img .now) (a .buffer .now) [] _ (l .0) (l .1 .0) (l .1 .1 .0) _ (b .read-fields .ensures .0) (c .before .if1 .taken) (c .bad .ensures)
 
 -- src/lib.rt:138:40
 space-requires : tie.Need-space-requires
@@ -59,7 +69,13 @@ same-length-3 c = search needs
 
 -- src/lib.rt:129:1
 returns-2 : tie.Need-returns-2
-returns-2 c = ?
+unfolding spaceDoes
+returns-2 c =
+    let b = c .before .before .before .before .before .before .before .before .before .before .before in
+    let a = b .before .before .before .before .before .before .before .before .before .args in
+    let l = b .read-fields .last .1 .1 .1 in
+    good-leaves (a .line .now) (a .at) (a .img .now) (a .buffer .now) [] _ (l .0) (l .1 .0) (l .1 .1 .0) _ (b .read-fields .ensures .0) (c .before .before .before .before .before .before .if1 .left)
+    (done-leaves (c .good2 .ensures) refl refl (rw (c .before .before .before .before .space .ensures .said, c .before .before .before .before .space .ensures .told) at (c .before .before .before .say-space .ensures)))
 
 pub space-spec : {M : Type 1} → statement M
 space-spec =
