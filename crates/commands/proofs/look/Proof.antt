@@ -1,3 +1,6 @@
+use Rattle.commands.proofs.SceneLaws.{none-leaves, if-so, if-not}
+use Rattle.commands.specs.Commands.{looks}
+use mathlib.Core.Path.{sym, _∙_}
 use borrow.Author.Needs.{needs}
 use Rattle.commands.proofs.look.Statement.{statement}
 use Rattle.commands.proofs.look.Tie as tie
@@ -34,7 +37,9 @@ same-length-2 c = search needs
 
 -- src/lib.rt:260:9
 returns : tie.Need-returns
-returns c = ?
+unfolding looks
+returns c =
+    if-so _ _ _ (sym (c .before .before .before .before .before .before .before .before .is-word .ensures) ∙ c .before .before .before .before .before .before .before .if1 .taken) (c .before .before .before .before .digest .ensures)
 
 -- src/lib.rt:262:34
 slice-aggregate-is-word-2 : tie.Need-slice-aggregate-is-word-2
@@ -58,7 +63,10 @@ same-length-4 c = search needs
 
 -- src/lib.rt:263:9
 returns-2 : tie.Need-returns-2
-returns-2 c = ?
+unfolding looks
+returns-2 c =
+    if-not _ _ _ (sym (c .before .before .before .before .before .before .before .before .before .before .before .is-word .ensures) ∙ c .before .before .before .before .before .before .before .before .before .before .if1 .left)
+    (if-so _ _ _ (sym (c .before .before .before .before .before .before .before .before .is-word2 .ensures) ∙ c .before .before .before .before .before .before .before .if2 .taken) (c .before .before .before .before .block .ensures))
 
 -- src/lib.rt:265:34
 slice-aggregate-is-word-3 : tie.Need-slice-aggregate-is-word-3
@@ -82,7 +90,11 @@ same-length-6 c = search needs
 
 -- src/lib.rt:266:9
 returns-3 : tie.Need-returns-3
-returns-3 c = ?
+unfolding looks
+returns-3 c =
+    if-not _ _ _ (sym (c .before .before .before .before .before .before .before .before .before .before .before .before .before .before .is-word .ensures) ∙ c .before .before .before .before .before .before .before .before .before .before .before .before .before .if1 .left)
+    (if-not _ _ _ (sym (c .before .before .before .before .before .before .before .before .before .before .before .is-word2 .ensures) ∙ c .before .before .before .before .before .before .before .before .before .before .if2 .left)
+    (if-so _ _ _ (sym (c .before .before .before .before .before .before .before .before .is-word3 .ensures) ∙ c .before .before .before .before .before .before .before .if3 .taken) (c .before .before .before .before .space .ensures)))
 
 -- src/lib.rt:268:34
 slice-aggregate-is-word-4 : tie.Need-slice-aggregate-is-word-4
@@ -106,7 +118,12 @@ same-length-8 c = search needs
 
 -- src/lib.rt:269:9
 returns-4 : tie.Need-returns-4
-returns-4 c = ?
+unfolding looks
+returns-4 c =
+    if-not _ _ _ (sym (c .before .before .before .before .before .before .before .before .before .before .before .before .before .before .before .before .before .is-word .ensures) ∙ c .before .before .before .before .before .before .before .before .before .before .before .before .before .before .before .before .if1 .left)
+    (if-not _ _ _ (sym (c .before .before .before .before .before .before .before .before .before .before .before .before .before .before .is-word2 .ensures) ∙ c .before .before .before .before .before .before .before .before .before .before .before .before .before .if2 .left)
+    (if-not _ _ _ (sym (c .before .before .before .before .before .before .before .before .before .before .before .is-word3 .ensures) ∙ c .before .before .before .before .before .before .before .before .before .before .if3 .left)
+    (if-so _ _ _ (sym (c .before .before .before .before .before .before .before .before .is-word4 .ensures) ∙ c .before .before .before .before .before .before .before .if4 .taken) (c .before .before .before .before .get-info .ensures))))
 
 -- src/lib.rt:271:34
 slice-aggregate-is-word-5 : tie.Need-slice-aggregate-is-word-5
@@ -130,7 +147,13 @@ same-length-10 c = search needs
 
 -- src/lib.rt:272:9
 returns-5 : tie.Need-returns-5
-returns-5 c = ?
+unfolding looks
+returns-5 c =
+    if-not _ _ _ (sym (c .before .before .before .before .before .before .before .before .before .before .before .before .before .before .before .before .before .before .before .before .is-word .ensures) ∙ c .before .before .before .before .before .before .before .before .before .before .before .before .before .before .before .before .before .before .before .if1 .left)
+    (if-not _ _ _ (sym (c .before .before .before .before .before .before .before .before .before .before .before .before .before .before .before .before .before .is-word2 .ensures) ∙ c .before .before .before .before .before .before .before .before .before .before .before .before .before .before .before .before .if2 .left)
+    (if-not _ _ _ (sym (c .before .before .before .before .before .before .before .before .before .before .before .before .before .before .is-word3 .ensures) ∙ c .before .before .before .before .before .before .before .before .before .before .before .before .before .if3 .left)
+    (if-not _ _ _ (sym (c .before .before .before .before .before .before .before .before .before .before .before .is-word4 .ensures) ∙ c .before .before .before .before .before .before .before .before .before .before .if4 .left)
+    (if-so _ _ _ (sym (c .before .before .before .before .before .before .before .before .is-word5 .ensures) ∙ c .before .before .before .before .before .before .before .if5 .taken) (c .before .before .before .before .read .ensures)))))
 
 -- src/lib.rt:274:34
 slice-aggregate-is-word-6 : tie.Need-slice-aggregate-is-word-6
@@ -154,7 +177,14 @@ same-length-12 c = search needs
 
 -- src/lib.rt:275:9
 returns-6 : tie.Need-returns-6
-returns-6 c = ?
+unfolding looks
+returns-6 c =
+    if-not _ _ _ (sym (c .before .before .before .before .before .before .before .before .before .before .before .before .before .before .before .before .before .before .before .before .before .before .before .is-word .ensures) ∙ c .before .before .before .before .before .before .before .before .before .before .before .before .before .before .before .before .before .before .before .before .before .before .if1 .left)
+    (if-not _ _ _ (sym (c .before .before .before .before .before .before .before .before .before .before .before .before .before .before .before .before .before .before .before .before .is-word2 .ensures) ∙ c .before .before .before .before .before .before .before .before .before .before .before .before .before .before .before .before .before .before .before .if2 .left)
+    (if-not _ _ _ (sym (c .before .before .before .before .before .before .before .before .before .before .before .before .before .before .before .before .before .is-word3 .ensures) ∙ c .before .before .before .before .before .before .before .before .before .before .before .before .before .before .before .before .if3 .left)
+    (if-not _ _ _ (sym (c .before .before .before .before .before .before .before .before .before .before .before .before .before .before .is-word4 .ensures) ∙ c .before .before .before .before .before .before .before .before .before .before .before .before .before .if4 .left)
+    (if-not _ _ _ (sym (c .before .before .before .before .before .before .before .before .before .before .before .is-word5 .ensures) ∙ c .before .before .before .before .before .before .before .before .before .before .if5 .left)
+    (if-so _ _ _ (sym (c .before .before .before .before .before .before .before .before .is-word6 .ensures) ∙ c .before .before .before .before .before .before .before .if6 .taken) (c .before .before .before .before .find .ensures))))))
 
 -- src/lib.rt:277:5
 bad-requires : tie.Need-bad-requires
@@ -162,7 +192,15 @@ bad-requires c κs = search needs
 
 -- src/lib.rt:255:1
 returns-7 : tie.Need-returns-7
-returns-7 c = ?
+unfolding looks
+returns-7 c =
+    if-not _ _ _ (sym (c .before .before .before .before .before .before .before .before .before .before .before .before .before .before .before .before .before .is-word .ensures) ∙ c .before .before .before .before .before .before .before .before .before .before .before .before .before .before .before .before .if1 .left)
+    (if-not _ _ _ (sym (c .before .before .before .before .before .before .before .before .before .before .before .before .before .before .is-word2 .ensures) ∙ c .before .before .before .before .before .before .before .before .before .before .before .before .before .if2 .left)
+    (if-not _ _ _ (sym (c .before .before .before .before .before .before .before .before .before .before .before .is-word3 .ensures) ∙ c .before .before .before .before .before .before .before .before .before .before .if3 .left)
+    (if-not _ _ _ (sym (c .before .before .before .before .before .before .before .before .is-word4 .ensures) ∙ c .before .before .before .before .before .before .before .if4 .left)
+    (if-not _ _ _ (sym (c .before .before .before .before .before .is-word5 .ensures) ∙ c .before .before .before .before .if5 .left)
+    (if-not _ _ _ (sym (c .before .before .is-word6 .ensures) ∙ c .before .if6 .left)
+    (none-leaves (c .bad .ensures)))))))
 
 pub look-spec : {M : Type 1} → statement M
 look-spec =

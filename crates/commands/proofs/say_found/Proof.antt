@@ -1,3 +1,8 @@
+use Rattle.commands.specs.Commands.{placeForms}
+use Rattle.replies.specs.Lines.{okLine}
+use Rattle.ink.proofs.InkLaws.{prints-as}
+use mathlib.Core.List.{[], _∷_}
+use mathlib.Core.Path.{ap}
 use borrow.Author.Needs.{needs}
 use Rattle.commands.proofs.say_found.Statement.{statement}
 use Rattle.commands.proofs.say_found.Tie as tie
@@ -40,7 +45,9 @@ same-length c = search needs
 
 -- src/lib.rt:222:1
 returns : tie.Need-returns
-returns c = ?
+returns c =
+    let a = c .before .before .before .before .before .before .before .before .before .before .before .before .args in
+    prints-as (ap (λ x. okLine placeForms (a .place .block ∷ a .place .slot ∷ x ∷ [])) (c .before .before .before .before .before .before .before .blocks-read .ensures)) (c .before .before .say-ok .ensures)
 
 pub say-found-spec : {M : Type 1} → statement M
 say-found-spec =

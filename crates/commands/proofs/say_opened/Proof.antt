@@ -1,3 +1,8 @@
+use Rattle.commands.specs.Commands.{foundLine}
+use Rattle.ink.proofs.InkLaws.{prints-as}
+use Rattle.model.specs.Bytes.{view}
+use lib.ListN.{length}
+use mathlib.Core.Path.{sym, ap, _∙_}
 use borrow.Author.Needs.{needs}
 use Rattle.commands.proofs.say_opened.Statement.{statement}
 use Rattle.commands.proofs.say_opened.Tie as tie
@@ -50,7 +55,10 @@ same-length c = search needs
 
 -- src/lib.rt:231:1
 returns : tie.Need-returns
-returns c = ?
+unfolding foundLine
+returns c =
+    let i = c .before .before .before .before .before .before .before .before .before .before .before .args .img .now in
+    prints-as (ap (foundLine (length i) (view i)) (sym (sym (c .before .before .before .before .before .before .before .opened-by .ensures) ∙ c .before .before .before .before .before .why .given .1))) (c .before .before .say-refused .ensures)
 
 -- src/lib.rt:231:1
 same-length-2 : tie.Need-same-length-2
@@ -58,7 +66,10 @@ same-length-2 c = search needs
 
 -- src/lib.rt:231:1
 returns-2 : tie.Need-returns-2
-returns-2 c = ?
+unfolding foundLine
+returns-2 c =
+    let i = c .before .before .before .before .before .before .before .before .before .before .before .before .args .img .now in
+    prints-as (ap (foundLine (length i) (view i)) (sym (sym (c .before .before .before .before .before .before .before .before .opened-by .ensures) ∙ c .before .before .before .before .before .before .enum-told .given .1))) (c .before .before .say-ok .ensures)
 
 -- src/lib.rt:231:1
 same-length-3 : tie.Need-same-length-3
@@ -66,7 +77,10 @@ same-length-3 c = search needs
 
 -- src/lib.rt:231:1
 returns-3 : tie.Need-returns-3
-returns-3 c = ?
+unfolding foundLine
+returns-3 c =
+    let i = c .before .before .before .before .before .before .before .before .before .before .before .args .img .now in
+    prints-as (ap (foundLine (length i) (view i)) (sym (sym (c .before .before .before .before .before .before .before .opened-by .ensures) ∙ c .before .before .before .before .before .home .given .1))) (c .before .before .say-found .ensures)
 
 pub say-opened-spec : {M : Type 1} → statement M
 say-opened-spec =
