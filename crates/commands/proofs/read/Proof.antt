@@ -1,3 +1,15 @@
+use Rattle.commands.proofs.SceneLaws.{bad-leaves, good-leaves, none-leaves, if-so, if-not, part-as, front-back}
+use Rattle.commands.specs.Commands.{equals, readOutcome, readDoes, ReadsInto}
+use Rattle.commands.specs.Scenes.{cut}
+use Rattle.model.specs.Read.{read}
+use Rattle.ink.specs.Ink.{sheet}
+use borrow.Author.Tests.{not-false, le-leb, lt-leb}
+use Prim.Native.Nat.{_-_, _≤_}
+use Rattle.model.specs.Bytes.{view, paste}
+use lib.ListN.{length, take, drop}
+use native.Mathlib.Omega.{arith}
+use mathlib.Core.List.{List, [], _∷_}
+use mathlib.Core.Path.{_≡_, refl, ap, _∙_}
 use borrow.Author.Needs.{needs}
 use Rattle.commands.proofs.read.Statement.{statement}
 use Rattle.commands.proofs.read.Tie as tie
@@ -33,7 +45,12 @@ same-length c = search needs
 
 -- src/lib.rt:185:9
 returns : tie.Need-returns
-returns c = ?
+unfolding readDoes
+returns c =
+    let b = c .before .before .before .before .before .before in
+    let a = b .before .before .before .before .before .before .before .before .before .args in
+    let l = b .read-fields .last .1 .1 .1 in
+    bad-leaves (a .line .now) (a .at) (a .img .now) (a .buffer .now) (84 ∷ 78 ∷ 78 ∷ []) _ (l .0) (l .1 .0) (l .1 .1 .0) _ (b .read-fields .ensures .0) (c .before .if1 .taken) (c .bad .ensures)
 
 -- src/lib.rt:187:16
 array-read-size : tie.Need-array-read-size
@@ -53,7 +70,13 @@ same-length-2 c = search needs
 
 -- src/lib.rt:190:9
 returns-2 : tie.Need-returns-2
-returns-2 c = ?
+unfolding readDoes
+returns-2 c =
+    let b = c .before .before .before .before .before .before .before in
+    let a = b .before .before .before .before .before .before .before .before .before .args in
+    let l = b .read-fields .last .1 .1 .1 in
+    good-leaves (a .line .now) (a .at) (a .img .now) (a .buffer .now) (84 ∷ 78 ∷ 78 ∷ []) _ (l .0) (l .1 .0) (l .1 .1 .0) _ (b .read-fields .ensures .0) (c .before .before .if1 .left)
+    (if-not _ _ _ (lt-leb (view (l .0) 2) (length (a .buffer .now)) (omega arith)) (none-leaves (c .bad2 .ensures)))
 
 -- src/lib.rt:194:9
 sub-read-into : tie.Need-sub-read-into
@@ -65,7 +88,7 @@ part-read-into-start c = search needs
 
 -- src/lib.rt:194:9
 part-read-into-end : tie.Need-part-read-into-end
-part-read-into-end c = ?
+part-read-into-end c = omega (arith, c .before .before .before .before .before .before .before .read-fields .ensures .1 (not-false _ (c .before .before .if1 .left)) 0 (omega arith))
 
 -- src/lib.rt:195:9
 array-read-read-into : tie.Need-array-read-read-into
@@ -97,7 +120,25 @@ same-length-4 c = search needs
 
 -- src/lib.rt:178:1
 returns-3 : tie.Need-returns-3
-returns-3 c = ?
+unfolding readDoes readOutcome
+returns-3 c =
+    let b = c .before .before .before .before .before .before .before .before .before .before .before .before .before .before .before in
+    let a = b .before .before .before .before .before .before .before .before .before .args in
+    let l = b .read-fields .last .1 .1 .1 in
+    let i = a .img .now in
+    let x = l .1 .1 .0 in
+    let z = view (l .0) 0 in
+    let k = view (l .0) 2 in
+    let y = c .before .before .before .before .read-into in
+    let s = sheet (a .ink) (a .page .now) in
+    let h : z ≤ length (l .1 .0) = omega (arith, b .read-fields .ensures .1 (not-false _ (c .before .before .before .before .before .before .before .before .before .before .if1 .left)) 0 (omega arith)) in
+    let m : k ≤ length x = c .before .before .before .before .before .before .before .before .before .if2 .left in
+    let n = length (take (k - 0) (drop 0 x)) in
+    let q = part-as (λ f j. ReadsInto (read (length i) (view i) f j (view (l .0) 1) (equals n 0xA5) n) n s (y .result) (y .last .1 .1 .1 .0) (y .last .1 .1 .1 .1 .0)) (l .1 .0) 0 z z (omega arith) h (y .ensures) in
+    let w = part-as (λ f j. ReadsInto (read (length i) (view i) (cut (view (l .1 .0)) 0 z) z (view (l .0) 1) (equals j 0xA5) j) j s (y .result) (y .last .1 .1 .1 .0) (y .last .1 .1 .1 .1 .0)) x 0 k k (omega arith) m q in
+    good-leaves (a .line .now) (a .at) (a .img .now) (a .buffer .now) (84 ∷ 78 ∷ 78 ∷ []) _ (l .0) (l .1 .0) (l .1 .1 .0) _ (b .read-fields .ensures .0) (c .before .before .before .before .before .before .before .before .before .before .if1 .left)
+    (if-so _ _ _ (le-leb k (length (a .buffer .now)) (omega (arith, b .read-fields .kept .1 .1 .1 .1 .1 .0)))
+    (record { good = w .good; image = refl; buffer = front-back x (y .last .1 .1 .1 .0) k m (y .kept .1 .1 .1 .0 ∙ part-as (λ f j. n ≡ j) x 0 k k (omega arith) m refl) ∙ ap (paste (view x) 0 k) (w .buffer); page = w .page }))
 
 pub read-spec : {M : Type 1} → statement M
 read-spec =

@@ -1,3 +1,6 @@
+use Rattle.commands.proofs.SceneLaws.{if-so, if-not}
+use Rattle.commands.specs.Commands.{runs}
+use mathlib.Core.Path.{sym, _∙_}
 use borrow.Author.Needs.{needs}
 use Rattle.commands.proofs.run.Statement.{statement}
 use Rattle.commands.proofs.run.Tie as tie
@@ -34,7 +37,8 @@ same-length-3 c = search needs
 
 -- src/lib.rt:293:9
 returns : tie.Need-returns
-returns c = ?
+unfolding runs
+returns c = if-so _ _ _ (sym (c .before .before .before .before .before .before .before .before .before .before .before .is-word .ensures) ∙ c .before .before .before .before .before .before .before .before .before .before .if1 .taken) (c .before .before .before .before .before .before .set .ensures)
 
 -- src/lib.rt:295:34
 slice-aggregate-is-word-2 : tie.Need-slice-aggregate-is-word-2
@@ -62,7 +66,10 @@ same-length-6 c = search needs
 
 -- src/lib.rt:296:9
 returns-2 : tie.Need-returns-2
-returns-2 c = ?
+unfolding runs
+returns-2 c =
+    if-not _ _ _ (sym (c .before .before .before .before .before .before .before .before .before .before .before .before .before .before .is-word .ensures) ∙ c .before .before .before .before .before .before .before .before .before .before .before .before .before .if1 .left)
+    (if-so _ _ _ (sym (c .before .before .before .before .before .before .before .before .before .before .before .is-word2 .ensures) ∙ c .before .before .before .before .before .before .before .before .before .before .if2 .taken) (c .before .before .before .before .before .before .set-run .ensures))
 
 -- src/lib.rt:298:5
 look-requires : tie.Need-look-requires
@@ -82,7 +89,10 @@ same-length-9 c = search needs
 
 -- src/lib.rt:281:1
 returns-3 : tie.Need-returns-3
-returns-3 c = ?
+unfolding runs
+returns-3 c =
+    if-not _ _ _ (sym (c .before .before .before .before .before .before .before .before .before .before .before .before .is-word .ensures) ∙ c .before .before .before .before .before .before .before .before .before .before .before .if1 .left)
+    (if-not _ _ _ (sym (c .before .before .before .before .before .before .before .before .before .is-word2 .ensures) ∙ c .before .before .before .before .before .before .before .before .if2 .left) (c .before .before .before .before .look .ensures))
 
 pub run-spec : {M : Type 1} → statement M
 run-spec =
