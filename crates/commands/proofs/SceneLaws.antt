@@ -58,7 +58,8 @@ module _ (c : Scene) (forms : List ℕ) (act : Fields → Left) where
 
 -- A line that is not good leaves all as it is; one that is good does what it says with the fields that were read.
 -- The lists are those that the call of read_fields, whose answer is r, left in `values`, `room` and the buffer.
-module _ (line : List ℕ) (at : ℕ) (img buffer forms : List ℕ) (act : Fields → Left) (vs texts bytes : List ℕ) (r : Bool) (read : ReadTo line at buffer forms (replicate 8 0) (replicate 256 0) r vs texts bytes) where
+module _ (line : List ℕ) (at : ℕ) (img buffer forms : List ℕ) (act : Fields → Left) (vs texts bytes : List ℕ) (r : Bool)
+    (read : ReadTo line at buffer forms (replicate 8 0) (replicate 256 0) r vs texts bytes) where
   pub bad-leaves : {ink : Ink} {page : List ℕ} {said : Said} → not r ≡ true → said ≡ record { ink = ink; good = false }
       → Leaves (obeyed (scene line at img buffer) forms act) (sheet ink page) said img bytes page
   bad-leaves e s =

@@ -1,49 +1,37 @@
-use Rattle.commands.specs.Commands.{blockDoes}
-use Rattle.commands.proofs.SceneLaws.{bad-leaves, good-leaves, done-leaves, none-leaves, if-so, if-not, part-as}
+-- `commands::block` meets its contract. Assumes nothing.
+use Prim.Native.Nat.{_+_, _*_}
+use mathlib.Core.List.{[], _∷_}
+use mathlib.Core.Path.{refl}
+use native.Mathlib.Omega.{arith}
+use lib.ListN.{length}
+use borrow.Author.Needs.{needs}
+use borrow.Author.Tests.{not-false, le-leb, lt-leb}
+use Rattle.model.specs.Bytes.{view}
 use Rattle.ink.specs.Ink.{sheet, Prints}
 use Rattle.replies.specs.Lines.{bytesLine}
-use borrow.Author.Tests.{not-false, le-leb, lt-leb}
-use Prim.Native.Nat.{_+_, _*_, _≤_}
-use Rattle.model.specs.Bytes.{view}
-use lib.ListN.{length}
-use native.Mathlib.Omega.{arith}
-use mathlib.Core.List.{[], _∷_}
-use mathlib.Core.Path.{_≡_, refl}
-use borrow.Author.Needs.{needs}
+use Rattle.commands.specs.Commands.{blockDoes}
+use Rattle.commands.proofs.SceneLaws.{bad-leaves, good-leaves, done-leaves, none-leaves, if-so, if-not, part-as}
 use Rattle.commands.proofs.block.Statement.{statement}
 use Rattle.commands.proofs.block.Tie as tie
-use Rattle.commands.proofs.block.Reads as reads
-use Rattle.commands.proofs.block.Lts as lts
-use Rattle.commands.proofs.bad.Reads as bad-reads
-use Rattle.commands.proofs.good.Reads as good-reads
-use Rattle.replies.proofs.say_bytes.Reads as say-bytes-reads
-use Rattle.script.proofs.read_fields.Reads as read-fields-reads
 
--- src/lib.rt:118:39
 slice-aggregate-read-fields : tie.Need-slice-aggregate-read-fields
 slice-aggregate-read-fields c = search needs
 
--- src/lib.rt:118:45
 slice-aggregate-read-fields-2 : tie.Need-slice-aggregate-read-fields-2
 slice-aggregate-read-fields-2 c = search needs
 
--- src/lib.rt:118:58
 slice-aggregate-read-fields-3 : tie.Need-slice-aggregate-read-fields-3
 slice-aggregate-read-fields-3 c = search needs
 
--- src/lib.rt:118:9
 read-fields-requires : tie.Need-read-fields-requires
 read-fields-requires c κs = search needs
 
--- src/lib.rt:119:9
 bad-requires : tie.Need-bad-requires
 bad-requires c κs = search needs
 
--- src/lib.rt:119:9
 same-length : tie.Need-same-length
 same-length c = search needs
 
--- src/lib.rt:119:9
 returns : tie.Need-returns
 unfolding blockDoes
 returns c =
@@ -52,27 +40,21 @@ returns c =
     let l = b .read-fields .last .1 .1 .1 in
     bad-leaves (a .line .now) (a .at) (a .img .now) (a .buffer .now) (78 ∷ []) _ (l .0) (l .1 .0) (l .1 .1 .0) _ (b .read-fields .ensures .0) (c .before .if1 .taken) (c .bad .ensures)
 
--- src/lib.rt:121:17
 array-read-start : tie.Need-array-read-start
 array-read-start c = search needs
 
--- src/lib.rt:121:17
 mul-start : tie.Need-mul-start
 mul-start c = omega (arith, c .before .before .before .before .before .read-fields .ensures .1 (not-false _ (c .if1 .left)) 0 (omega arith))
 
--- src/lib.rt:122:15
 add-end : tie.Need-add-end
 add-end c = omega (arith, c .before .before .before .before .before .read-fields .ensures .1 (not-false _ (c .if1 .left)) 0 (omega arith))
 
--- src/lib.rt:124:9
 bad-requires-2 : tie.Need-bad-requires-2
 bad-requires-2 c κs = search needs
 
--- src/lib.rt:124:9
 same-length-2 : tie.Need-same-length-2
 same-length-2 c = search needs
 
--- src/lib.rt:124:9
 returns-2 : tie.Need-returns-2
 unfolding blockDoes
 returns-2 c =
@@ -82,35 +64,27 @@ returns-2 c =
     good-leaves (a .line .now) (a .at) (a .img .now) (a .buffer .now) (78 ∷ []) _ (l .0) (l .1 .0) (l .1 .1 .0) _ (b .read-fields .ensures .0) (c .before .before .if1 .left)
     (if-not _ _ _ (lt-leb (view (l .0) 0 * 512 + 512) (length (a .img .now)) (c .before .if2 .taken)) (none-leaves (c .bad2 .ensures)))
 
--- src/lib.rt:126:40
 sub-say-bytes : tie.Need-sub-say-bytes
 sub-say-bytes c = search needs
 
--- src/lib.rt:126:40
 part-say-bytes-start : tie.Need-part-say-bytes-start
 part-say-bytes-start c = search needs
 
--- src/lib.rt:126:40
 part-say-bytes-end : tie.Need-part-say-bytes-end
 part-say-bytes-end c = search needs
 
--- src/lib.rt:126:10
 say-bytes-requires : tie.Need-say-bytes-requires
 say-bytes-requires c κs = search needs
 
--- src/lib.rt:126:5
 good-requires : tie.Need-good-requires
 good-requires c κs = search needs
 
--- src/lib.rt:112:1
 same-length-3 : tie.Need-same-length-3
 same-length-3 c = search needs
 
--- src/lib.rt:112:1
 same-length-4 : tie.Need-same-length-4
 same-length-4 c = search needs
 
--- src/lib.rt:112:1
 returns-3 : tie.Need-returns-3
 unfolding blockDoes
 returns-3 c =

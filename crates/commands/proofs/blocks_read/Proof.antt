@@ -1,16 +1,13 @@
 -- `commands::blocks_read` meets its contract.
-use mathlib.Core.Path.{_≡_, refl, sym, ap, _∙_}
-use Prim.Native.Nat.{_-_, _*_, _/_, _≤_}
+use Prim.Native.Nat.{_-_, _/_}
+use mathlib.Core.Path.{_≡_, refl, sym, _∙_}
 use lib.ListN.{length}
+use borrow.Author.Needs.{needs}
 use Rattle.model.specs.Bytes.{view}
 use Rattle.commands.specs.Commands.{readUntil, blocksRead}
 use Rattle.commands.proofs.UntilLaws.{until-over, until-found, until-past, until-next}
-use borrow.Author.Needs.{needs}
 use Rattle.commands.proofs.blocks_read.Statement.{statement}
 use Rattle.commands.proofs.blocks_read.Tie as tie
-use Rattle.commands.proofs.blocks_read.Reads as reads
-use Rattle.commands.proofs.blocks_read.Lts as lts
-use Rattle.store.proofs.get_word.Reads as get-word-reads
 
 abbrev Inv-loop : tie.InvT-loop
 Inv-loop img key goal most block₀ read₀ block read =

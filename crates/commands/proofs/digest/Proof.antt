@@ -1,42 +1,30 @@
-use mathlib.Core.Path.{refl}
+-- `commands::digest` meets its contract. Assumes nothing.
 use mathlib.Core.List.{[]}
-use Rattle.commands.proofs.SceneLaws.{bad-leaves, good-leaves, done-leaves}
-use Rattle.commands.specs.Commands.{digestDoes}
+use mathlib.Core.Path.{refl}
 use borrow.Author.Needs.{needs}
+use Rattle.commands.specs.Commands.{digestDoes}
+use Rattle.commands.proofs.SceneLaws.{bad-leaves, good-leaves, done-leaves}
 use Rattle.commands.proofs.digest.Statement.{statement}
 use Rattle.commands.proofs.digest.Tie as tie
-use Rattle.commands.proofs.digest.Reads as reads
-use Rattle.commands.proofs.digest.Lts as lts
-use Rattle.commands.proofs.bad.Reads as bad-reads
-use Rattle.commands.proofs.good.Reads as good-reads
-use Rattle.replies.proofs.say_digest.Reads as say-digest-reads
-use Rattle.script.proofs.read_fields.Reads as read-fields-reads
 
--- src/lib.rt:106:39
 slice-aggregate-read-fields : tie.Need-slice-aggregate-read-fields
 slice-aggregate-read-fields c = search needs
 
--- src/lib.rt:106:44
 slice-aggregate-read-fields-2 : tie.Need-slice-aggregate-read-fields-2
 slice-aggregate-read-fields-2 c = search needs
 
--- src/lib.rt:106:57
 slice-aggregate-read-fields-3 : tie.Need-slice-aggregate-read-fields-3
 slice-aggregate-read-fields-3 c = search needs
 
--- src/lib.rt:106:9
 read-fields-requires : tie.Need-read-fields-requires
 read-fields-requires c κs = search needs
 
--- src/lib.rt:107:9
 bad-requires : tie.Need-bad-requires
 bad-requires c κs = search needs
 
--- src/lib.rt:107:9
 same-length : tie.Need-same-length
 same-length c = search needs
 
--- src/lib.rt:107:9
 returns : tie.Need-returns
 unfolding digestDoes
 returns c =
@@ -45,23 +33,18 @@ returns c =
     let l = b .read-fields .last .1 .1 .1 in
     bad-leaves (a .line .now) (a .at) (a .img .now) (a .buffer .now) [] _ (l .0) (l .1 .0) (l .1 .1 .0) _ (b .read-fields .ensures .0) (c .before .if1 .taken) (c .bad .ensures)
 
--- src/lib.rt:109:10
 say-digest-requires : tie.Need-say-digest-requires
 say-digest-requires c κs = search needs
 
--- src/lib.rt:109:5
 good-requires : tie.Need-good-requires
 good-requires c κs = search needs
 
--- src/lib.rt:100:1
 same-length-2 : tie.Need-same-length-2
 same-length-2 c = search needs
 
--- src/lib.rt:100:1
 same-length-3 : tie.Need-same-length-3
 same-length-3 c = search needs
 
--- src/lib.rt:100:1
 returns-2 : tie.Need-returns-2
 unfolding digestDoes
 returns-2 c =

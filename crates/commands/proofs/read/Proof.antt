@@ -1,49 +1,38 @@
-use Rattle.commands.proofs.SceneLaws.{bad-leaves, good-leaves, none-leaves, if-so, if-not, part-as, front-back}
-use Rattle.commands.specs.Commands.{equals, readOutcome, readDoes, ReadsInto}
-use Rattle.commands.specs.Scenes.{cut}
+-- `commands::read` meets its contract. Assumes nothing.
+use Prim.Native.Nat.{_-_, _≤_}
+use mathlib.Core.List.{[], _∷_}
+use mathlib.Core.Path.{_≡_, refl, ap, _∙_}
+use native.Mathlib.Omega.{arith}
+use lib.ListN.{length, take, drop}
+use borrow.Author.Needs.{needs}
+use borrow.Author.Tests.{not-false, le-leb, lt-leb}
+use Rattle.model.specs.Bytes.{view, paste}
 use Rattle.model.specs.Read.{read}
 use Rattle.ink.specs.Ink.{sheet}
-use borrow.Author.Tests.{not-false, le-leb, lt-leb}
-use Prim.Native.Nat.{_-_, _≤_}
-use Rattle.model.specs.Bytes.{view, paste}
-use lib.ListN.{length, take, drop}
-use native.Mathlib.Omega.{arith}
-use mathlib.Core.List.{List, [], _∷_}
-use mathlib.Core.Path.{_≡_, refl, ap, _∙_}
-use borrow.Author.Needs.{needs}
+use Rattle.commands.specs.Commands.{equals, readOutcome, readDoes, ReadsInto}
+use Rattle.commands.specs.Scenes.{cut}
+use Rattle.commands.proofs.SceneLaws.{bad-leaves, good-leaves, none-leaves, if-so, if-not, part-as, front-back}
 use Rattle.commands.proofs.read.Statement.{statement}
 use Rattle.commands.proofs.read.Tie as tie
-use Rattle.commands.proofs.read.Reads as reads
-use Rattle.commands.proofs.read.Lts as lts
-use Rattle.commands.proofs.bad.Reads as bad-reads
-use Rattle.commands.proofs.read_into.Reads as read-into-reads
-use Rattle.script.proofs.read_fields.Reads as read-fields-reads
 
--- src/lib.rt:184:39
 slice-aggregate-read-fields : tie.Need-slice-aggregate-read-fields
 slice-aggregate-read-fields c = search needs
 
--- src/lib.rt:184:47
 slice-aggregate-read-fields-2 : tie.Need-slice-aggregate-read-fields-2
 slice-aggregate-read-fields-2 c = search needs
 
--- src/lib.rt:184:60
 slice-aggregate-read-fields-3 : tie.Need-slice-aggregate-read-fields-3
 slice-aggregate-read-fields-3 c = search needs
 
--- src/lib.rt:184:9
 read-fields-requires : tie.Need-read-fields-requires
 read-fields-requires c κs = search needs
 
--- src/lib.rt:185:9
 bad-requires : tie.Need-bad-requires
 bad-requires c κs = search needs
 
--- src/lib.rt:185:9
 same-length : tie.Need-same-length
 same-length c = search needs
 
--- src/lib.rt:185:9
 returns : tie.Need-returns
 unfolding readDoes
 returns c =
@@ -52,23 +41,18 @@ returns c =
     let l = b .read-fields .last .1 .1 .1 in
     bad-leaves (a .line .now) (a .at) (a .img .now) (a .buffer .now) (84 ∷ 78 ∷ 78 ∷ []) _ (l .0) (l .1 .0) (l .1 .1 .0) _ (b .read-fields .ensures .0) (c .before .if1 .taken) (c .bad .ensures)
 
--- src/lib.rt:187:16
 array-read-size : tie.Need-array-read-size
 array-read-size c = search needs
 
--- src/lib.rt:188:17
 array-read-count : tie.Need-array-read-count
 array-read-count c = search needs
 
--- src/lib.rt:190:9
 bad-requires-2 : tie.Need-bad-requires-2
 bad-requires-2 c κs = search needs
 
--- src/lib.rt:190:9
 same-length-2 : tie.Need-same-length-2
 same-length-2 c = search needs
 
--- src/lib.rt:190:9
 returns-2 : tie.Need-returns-2
 unfolding readDoes
 returns-2 c =
@@ -78,47 +62,36 @@ returns-2 c =
     good-leaves (a .line .now) (a .at) (a .img .now) (a .buffer .now) (84 ∷ 78 ∷ 78 ∷ []) _ (l .0) (l .1 .0) (l .1 .1 .0) _ (b .read-fields .ensures .0) (c .before .before .if1 .left)
     (if-not _ _ _ (lt-leb (view (l .0) 2) (length (a .buffer .now)) (omega arith)) (none-leaves (c .bad2 .ensures)))
 
--- src/lib.rt:194:9
 sub-read-into : tie.Need-sub-read-into
 sub-read-into c = search needs
 
--- src/lib.rt:194:9
 part-read-into-start : tie.Need-part-read-into-start
 part-read-into-start c = search needs
 
--- src/lib.rt:194:9
 part-read-into-end : tie.Need-part-read-into-end
 part-read-into-end c = omega (arith, c .before .before .before .before .before .before .before .read-fields .ensures .1 (not-false _ (c .before .before .if1 .left)) 0 (omega arith))
 
--- src/lib.rt:195:9
 array-read-read-into : tie.Need-array-read-read-into
 array-read-read-into c = search needs
 
--- src/lib.rt:196:9
 sub-read-into-2 : tie.Need-sub-read-into-2
 sub-read-into-2 c = search needs
 
--- src/lib.rt:196:9
 part-read-into-start-2 : tie.Need-part-read-into-start-2
 part-read-into-start-2 c = search needs
 
--- src/lib.rt:196:9
 part-read-into-end-2 : tie.Need-part-read-into-end-2
 part-read-into-end-2 c = search needs
 
--- src/lib.rt:192:5
 read-into-requires : tie.Need-read-into-requires
 read-into-requires c κs = search needs
 
--- src/lib.rt:178:1
 same-length-3 : tie.Need-same-length-3
 same-length-3 c = search needs
 
--- src/lib.rt:178:1
 same-length-4 : tie.Need-same-length-4
 same-length-4 c = search needs
 
--- src/lib.rt:178:1
 returns-3 : tie.Need-returns-3
 unfolding readDoes readOutcome
 returns-3 c =

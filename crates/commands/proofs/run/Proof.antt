@@ -1,93 +1,69 @@
-use Rattle.commands.proofs.SceneLaws.{if-so, if-not}
-use Rattle.commands.specs.Commands.{runs}
+-- `commands::run` meets its contract. Assumes nothing.
 use mathlib.Core.Path.{sym, _∙_}
 use borrow.Author.Needs.{needs}
+use Rattle.commands.specs.Commands.{runs}
+use Rattle.commands.proofs.SceneLaws.{if-so, if-not}
 use Rattle.commands.proofs.run.Statement.{statement}
 use Rattle.commands.proofs.run.Tie as tie
-use Rattle.commands.proofs.run.Reads as reads
-use Rattle.commands.proofs.run.Lts as lts
-use Rattle.commands.proofs.look.Reads as look-reads
-use Rattle.commands.proofs.set.Reads as set-reads
-use Rattle.commands.proofs.set_run.Reads as set-run-reads
-use Rattle.script.proofs.is_word.Reads as is-word-reads
 
--- src/lib.rt:292:34
 slice-aggregate-is-word : tie.Need-slice-aggregate-is-word
 slice-aggregate-is-word c = search needs
 
--- src/lib.rt:292:8
 is-word-requires : tie.Need-is-word-requires
 is-word-requires c κs = search needs
 
--- src/lib.rt:293:9
 set-requires : tie.Need-set-requires
 set-requires c κs = search needs
 
--- src/lib.rt:293:9
 same-length : tie.Need-same-length
 same-length c = search needs
 
--- src/lib.rt:293:9
 same-length-2 : tie.Need-same-length-2
 same-length-2 c = search needs
 
--- src/lib.rt:293:9
 same-length-3 : tie.Need-same-length-3
 same-length-3 c = search needs
 
--- src/lib.rt:293:9
 returns : tie.Need-returns
 unfolding runs
 returns c = if-so _ _ _ (sym (c .before .before .before .before .before .before .before .before .before .before .before .is-word .ensures) ∙ c .before .before .before .before .before .before .before .before .before .before .if1 .taken) (c .before .before .before .before .before .before .set .ensures)
 
--- src/lib.rt:295:34
 slice-aggregate-is-word-2 : tie.Need-slice-aggregate-is-word-2
 slice-aggregate-is-word-2 c = search needs
 
--- src/lib.rt:295:8
 is-word-requires-2 : tie.Need-is-word-requires-2
 is-word-requires-2 c κs = search needs
 
--- src/lib.rt:296:9
 set-run-requires : tie.Need-set-run-requires
 set-run-requires c κs = search needs
 
--- src/lib.rt:296:9
 same-length-4 : tie.Need-same-length-4
 same-length-4 c = search needs
 
--- src/lib.rt:296:9
 same-length-5 : tie.Need-same-length-5
 same-length-5 c = search needs
 
--- src/lib.rt:296:9
 same-length-6 : tie.Need-same-length-6
 same-length-6 c = search needs
 
--- src/lib.rt:296:9
 returns-2 : tie.Need-returns-2
 unfolding runs
 returns-2 c =
     if-not _ _ _ (sym (c .before .before .before .before .before .before .before .before .before .before .before .before .before .before .is-word .ensures) ∙ c .before .before .before .before .before .before .before .before .before .before .before .before .before .if1 .left)
     (if-so _ _ _ (sym (c .before .before .before .before .before .before .before .before .before .before .before .is-word2 .ensures) ∙ c .before .before .before .before .before .before .before .before .before .before .if2 .taken) (c .before .before .before .before .before .before .set-run .ensures))
 
--- src/lib.rt:298:5
 look-requires : tie.Need-look-requires
 look-requires c κs = search needs
 
--- src/lib.rt:281:1
 same-length-7 : tie.Need-same-length-7
 same-length-7 c = search needs
 
--- src/lib.rt:281:1
 same-length-8 : tie.Need-same-length-8
 same-length-8 c = search needs
 
--- src/lib.rt:281:1
 same-length-9 : tie.Need-same-length-9
 same-length-9 c = search needs
 
--- src/lib.rt:281:1
 returns-3 : tie.Need-returns-3
 unfolding runs
 returns-3 c =

@@ -1,81 +1,61 @@
-use Rattle.commands.specs.Commands.{foundLine}
-use Rattle.ink.proofs.InkLaws.{prints-as}
-use Rattle.model.specs.Bytes.{view}
-use lib.ListN.{length}
+-- `commands::say_opened` meets its contract. Assumes nothing.
 use mathlib.Core.Path.{sym, ap, _∙_}
+use lib.ListN.{length}
 use borrow.Author.Needs.{needs}
+use Rattle.model.specs.Bytes.{view}
+use Rattle.ink.proofs.InkLaws.{prints-as}
+use Rattle.commands.specs.Commands.{foundLine}
 use Rattle.commands.proofs.say_opened.Statement.{statement}
 use Rattle.commands.proofs.say_opened.Tie as tie
-use Rattle.commands.proofs.say_opened.Reads as reads
-use Rattle.commands.proofs.say_opened.Lts as lts
-use Rattle.commands.proofs.say_found.Reads as say-found-reads
-use Rattle.opening.proofs.opened_by.Reads as opened-by-reads
-use Rattle.replies.proofs.say_ok.Reads as say-ok-reads
-use Rattle.replies.proofs.say_refused.Reads as say-refused-reads
 
--- src/lib.rt:234:11
 opened-by-requires : tie.Need-opened-by-requires
 opened-by-requires c κs = search needs
 
--- src/lib.rt:235:25
 enum-known-why : tie.Need-enum-known-why
 enum-known-why c = search needs
 
--- src/lib.rt:235:33
 say-refused-requires : tie.Need-say-refused-requires
 say-refused-requires c κs = search needs
 
--- src/lib.rt:236:46
 enum-told : tie.Need-enum-told
 enum-told c = search needs
 
--- src/lib.rt:236:57
 slice-aggregate-say-ok : tie.Need-slice-aggregate-say-ok
 slice-aggregate-say-ok c = search needs
 
--- src/lib.rt:236:65
 slice-aggregate-say-ok-2 : tie.Need-slice-aggregate-say-ok-2
 slice-aggregate-say-ok-2 c = search needs
 
--- src/lib.rt:236:30
 say-ok-requires : tie.Need-say-ok-requires
 say-ok-requires c κs = search needs
 
--- src/lib.rt:237:26
 enum-known-home : tie.Need-enum-known-home
 enum-known-home c = search needs
 
--- src/lib.rt:237:45
 say-found-requires : tie.Need-say-found-requires
 say-found-requires c κs = search needs
 
--- src/lib.rt:231:1
 same-length : tie.Need-same-length
 same-length c = search needs
 
--- src/lib.rt:231:1
 returns : tie.Need-returns
 unfolding foundLine
 returns c =
     let i = c .before .before .before .before .before .before .before .before .before .before .before .args .img .now in
     prints-as (ap (foundLine (length i) (view i)) (sym (sym (c .before .before .before .before .before .before .before .opened-by .ensures) ∙ c .before .before .before .before .before .why .given .1))) (c .before .before .say-refused .ensures)
 
--- src/lib.rt:231:1
 same-length-2 : tie.Need-same-length-2
 same-length-2 c = search needs
 
--- src/lib.rt:231:1
 returns-2 : tie.Need-returns-2
 unfolding foundLine
 returns-2 c =
     let i = c .before .before .before .before .before .before .before .before .before .before .before .before .args .img .now in
     prints-as (ap (foundLine (length i) (view i)) (sym (sym (c .before .before .before .before .before .before .before .before .opened-by .ensures) ∙ c .before .before .before .before .before .before .enum-told .given .1))) (c .before .before .say-ok .ensures)
 
--- src/lib.rt:231:1
 same-length-3 : tie.Need-same-length-3
 same-length-3 c = search needs
 
--- src/lib.rt:231:1
 returns-3 : tie.Need-returns-3
 unfolding foundLine
 returns-3 c =

@@ -1,48 +1,35 @@
+-- `commands::set_run` meets its contract. Assumes nothing.
+use Prim.Native.Nat.{_+_}
+use mathlib.Core.List.{[], _∷_}
+use mathlib.Core.Path.{refl}
+use native.Mathlib.Omega.{arith}
+use lib.ListN.{length}
+use borrow.Author.Needs.{needs}
+use borrow.Author.Tests.{not-false, le-leb, lt-leb}
+use Rattle.model.specs.Bytes.{view}
 use Rattle.commands.specs.Commands.{setRunDoes, laidIn}
 use Rattle.commands.proofs.SceneLaws.{bad-leaves, good-leaves, done-leaves, none-leaves, if-so, if-not}
-use borrow.Author.Tests.{not-false, le-leb, lt-leb}
-use Prim.Native.Nat.{_+_, _≤_}
-use Rattle.model.specs.Bytes.{view}
-use lib.ListN.{length}
-use native.Mathlib.Omega.{arith}
-use mathlib.Core.List.{[], _∷_}
-use mathlib.Core.Path.{_≡_, refl, _∙_}
-use borrow.Author.Needs.{needs}
 use Rattle.commands.proofs.set_run.Statement.{statement}
 use Rattle.commands.proofs.set_run.Tie as tie
-use Rattle.commands.proofs.set_run.Reads as reads
-use Rattle.commands.proofs.set_run.Lts as lts
-use Rattle.commands.proofs.bad.Reads as bad-reads
-use Rattle.commands.proofs.fill_run.Reads as fill-run-reads
-use Rattle.commands.proofs.good.Reads as good-reads
-use Rattle.replies.proofs.say_ok.Reads as say-ok-reads
-use Rattle.script.proofs.read_fields.Reads as read-fields-reads
 
--- src/lib.rt:88:39
 slice-aggregate-read-fields : tie.Need-slice-aggregate-read-fields
 slice-aggregate-read-fields c = search needs
 
--- src/lib.rt:88:47
 slice-aggregate-read-fields-2 : tie.Need-slice-aggregate-read-fields-2
 slice-aggregate-read-fields-2 c = search needs
 
--- src/lib.rt:88:60
 slice-aggregate-read-fields-3 : tie.Need-slice-aggregate-read-fields-3
 slice-aggregate-read-fields-3 c = search needs
 
--- src/lib.rt:88:9
 read-fields-requires : tie.Need-read-fields-requires
 read-fields-requires c κs = search needs
 
--- src/lib.rt:89:9
 bad-requires : tie.Need-bad-requires
 bad-requires c κs = search needs
 
--- src/lib.rt:89:9
 same-length : tie.Need-same-length
 same-length c = search needs
 
--- src/lib.rt:89:9
 returns : tie.Need-returns
 unfolding setRunDoes
 returns c =
@@ -51,27 +38,21 @@ returns c =
     let l = b .read-fields .last .1 .1 .1 in
     bad-leaves (a .line .now) (a .at) (a .img .now) (a .buffer .now) (78 ∷ 78 ∷ 66 ∷ []) _ (l .0) (l .1 .0) (l .1 .1 .0) _ (b .read-fields .ensures .0) (c .before .if1 .taken) (c .bad .ensures)
 
--- src/lib.rt:91:19
 array-read-address : tie.Need-array-read-address
 array-read-address c = search needs
 
--- src/lib.rt:92:17
 array-read-count : tie.Need-array-read-count
 array-read-count c = search needs
 
--- src/lib.rt:93:20
 add-if2 : tie.Need-add-if2
 add-if2 c = omega (arith, c .before .before .before .before .before .read-fields .ensures .1 (not-false _ (c .if1 .left)) 0 (omega arith), c .before .before .before .before .before .read-fields .ensures .1 (not-false _ (c .if1 .left)) 1 (omega arith))
 
--- src/lib.rt:94:9
 bad-requires-2 : tie.Need-bad-requires-2
 bad-requires-2 c κs = search needs
 
--- src/lib.rt:94:9
 same-length-2 : tie.Need-same-length-2
 same-length-2 c = search needs
 
--- src/lib.rt:94:9
 returns-2 : tie.Need-returns-2
 unfolding setRunDoes laidIn
 returns-2 c =
@@ -81,47 +62,36 @@ returns-2 c =
     good-leaves (a .line .now) (a .at) (a .img .now) (a .buffer .now) (78 ∷ 78 ∷ 66 ∷ []) _ (l .0) (l .1 .0) (l .1 .1 .0) _ (b .read-fields .ensures .0) (c .before .before .if1 .left)
     (if-not _ _ _ (lt-leb (view (l .0) 0 + view (l .0) 1) (length (a .img .now)) (c .before .if2 .taken)) (none-leaves (c .bad2 .ensures)))
 
--- src/lib.rt:96:35
 array-read-fill-run : tie.Need-array-read-fill-run
 array-read-fill-run c = search needs
 
--- src/lib.rt:96:35
 cast-fill-run : tie.Need-cast-fill-run
 cast-fill-run c = omega (arith, c .before .before .before .before .before .before .before .read-fields .ensures .1 (not-false _ (c .before .before .if1 .left)) 2 (omega arith))
 
--- src/lib.rt:96:5
 fill-run-requires : tie.Need-fill-run-requires
 fill-run-requires c κs = search needs
 
--- src/lib.rt:97:37
 slice-aggregate-say-ok : tie.Need-slice-aggregate-say-ok
 slice-aggregate-say-ok c = search needs
 
--- src/lib.rt:97:42
 slice-aggregate-say-ok-2 : tie.Need-slice-aggregate-say-ok-2
 slice-aggregate-say-ok-2 c = search needs
 
--- src/lib.rt:97:10
 say-ok-requires : tie.Need-say-ok-requires
 say-ok-requires c κs = search needs
 
--- src/lib.rt:97:5
 good-requires : tie.Need-good-requires
 good-requires c κs = search needs
 
--- src/lib.rt:75:1
 same-length-3 : tie.Need-same-length-3
 same-length-3 c = search needs
 
--- src/lib.rt:75:1
 same-length-4 : tie.Need-same-length-4
 same-length-4 c = search needs
 
--- src/lib.rt:75:1
 same-length-5 : tie.Need-same-length-5
 same-length-5 c = search needs
 
--- src/lib.rt:75:1
 returns-3 : tie.Need-returns-3
 unfolding setRunDoes laidIn
 returns-3 c =
