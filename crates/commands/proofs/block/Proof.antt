@@ -88,13 +88,18 @@ same-length-4 c = search needs
 returns-3 : tie.Need-returns-3
 unfolding blockDoes
 returns-3 c =
-    let b = c .before .before .before .before .before .before .before .before .before .before .before .before in
+    let e = c .before .before .before .before .before .before .before in
+    let b = e .before .before .before .before .before in
     let a = b .before .before .before .before .before .before .before .before .before .args in
     let l = b .read-fields .last .1 .1 .1 in
-    good-leaves (a .line .now) (a .at) (a .img .now) (a .buffer .now) (78 ∷ []) _ (l .0) (l .1 .0) (l .1 .1 .0) _ (b .read-fields .ensures .0) (c .before .before .before .before .before .before .before .if1 .left)
-    (if-so _ _ _ (le-leb (view (l .0) 0 * 512 + 512) (length (a .img .now)) (c .before .before .before .before .before .before .if2 .left))
+    let i = a .img .now in
+    let x = view (l .0) 0 * 512 in
+    let y = c .before .before .before .say-bytes in
+    let h = c .before .before .before .before .before .before .if2 .left in
+    good-leaves (a .line .now) (a .at) (a .img .now) (a .buffer .now) (78 ∷ []) _ (l .0) (l .1 .0) (l .1 .1 .0) _ (b .read-fields .ensures .0) (e .if1 .left)
+    (if-so _ _ _ (le-leb (x + 512) (length i) h)
     (done-leaves (c .good2 .ensures) refl refl
-    (part-as (λ f n. Prints (bytesLine f n) (sheet (a .ink) (a .page .now)) (sheet (c .before .before .before .say-bytes .result) (c .before .before .before .say-bytes .last .0))) (a .img .now) (view (l .0) 0 * 512) (view (l .0) 0 * 512 + 512) 512 refl (c .before .before .before .before .before .before .if2 .left) (c .before .before .before .say-bytes .ensures))))
+    (part-as (λ f n. Prints (bytesLine f n) (sheet (a .ink) (a .page .now)) (sheet (y .result) (y .last .0))) i x (x + 512) 512 refl h (y .ensures))))
 
 pub block-spec : {M : Type 1} → statement M
 block-spec =

@@ -67,14 +67,18 @@ same-length-3 c = search needs
 returns-2 : tie.Need-returns-2
 unfolding findDoes
 returns-2 c =
-    let b = c .before .before .before .before .before .before .before .before .before .before .before .before in
+    let e = c .before .before .before .before .before .before .before in
+    let b = e .before .before .before .before .before in
     let a = b .before .before .before .before .before .before .before .before .before .args in
     let l = b .read-fields .last .1 .1 .1 in
+    let n = length (a .img .now) in
+    let v = view (a .img .now) in
     let z = view (l .0) 0 in
-    let h : z ≤ length (l .1 .0) = omega (arith, b .read-fields .ensures .1 (not-false _ (c .before .before .before .before .before .before .before .if1 .left)) 0 (omega arith)) in
-    good-leaves (a .line .now) (a .at) (a .img .now) (a .buffer .now) (84 ∷ []) _ (l .0) (l .1 .0) (l .1 .1 .0) _ (b .read-fields .ensures .0) (c .before .before .before .before .before .before .before .if1 .left)
+    let y = c .before .before .before .say-opened in
+    let h : z ≤ length (l .1 .0) = omega (arith, b .read-fields .ensures .1 (not-false _ (e .if1 .left)) 0 (omega arith)) in
+    good-leaves (a .line .now) (a .at) (a .img .now) (a .buffer .now) (84 ∷ []) _ (l .0) (l .1 .0) (l .1 .1 .0) _ (b .read-fields .ensures .0) (e .if1 .left)
     (done-leaves (c .good2 .ensures) refl refl
-    (part-as (λ f n. Prints (foundLine (length (a .img .now)) (view (a .img .now)) (openedBy (length (a .img .now)) (view (a .img .now)) f n)) (sheet (a .ink) (a .page .now)) (sheet (c .before .before .before .say-opened .result) (c .before .before .before .say-opened .last .1 .1 .0))) (l .1 .0) 0 z z (omega arith) h (c .before .before .before .say-opened .ensures)))
+    (part-as (λ f j. Prints (foundLine n v (openedBy n v f j)) (sheet (a .ink) (a .page .now)) (sheet (y .result) (y .last .1 .1 .0))) (l .1 .0) 0 z z (omega arith) h (y .ensures)))
 
 pub find-spec : {M : Type 1} → statement M
 find-spec =

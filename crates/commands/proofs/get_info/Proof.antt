@@ -70,13 +70,16 @@ same-length-3 c = search needs
 returns-2 : tie.Need-returns-2
 unfolding getInfoDoes
 returns-2 c =
-    let b = c .before .before .before .before .before .before .before .before .before .before .before .before .before in
+    let e = c .before .before .before .before .before .before .before .before in
+    let b = e .before .before .before .before .before in
     let a = b .before .before .before .before .before .before .before .before .before .args in
     let l = b .read-fields .last .1 .1 .1 in
+    let i = a .img .now in
     let z = view (l .0) 0 in
-    let h : z ≤ length (l .1 .0) = omega (arith, b .read-fields .ensures .1 (not-false _ (c .before .before .before .before .before .before .before .before .if1 .left)) 0 (omega arith)) in
-    let t = part-as (λ f n. Tells (getInfo (length (a .img .now)) (view (a .img .now)) f n) (c .before .before .before .before .get-info .result)) (l .1 .0) 0 z z (omega arith) h (c .before .before .before .before .get-info .ensures) in
-    good-leaves (a .line .now) (a .at) (a .img .now) (a .buffer .now) (84 ∷ []) _ (l .0) (l .1 .0) (l .1 .1 .0) _ (b .read-fields .ensures .0) (c .before .before .before .before .before .before .before .before .if1 .left)
+    let y = c .before .before .before .before .get-info in
+    let h : z ≤ length (l .1 .0) = omega (arith, b .read-fields .ensures .1 (not-false _ (e .if1 .left)) 0 (omega arith)) in
+    let t = part-as (λ f n. Tells (getInfo (length i) (view i) f n) (y .result)) (l .1 .0) 0 z z (omega arith) h (y .ensures) in
+    good-leaves (a .line .now) (a .at) (a .img .now) (a .buffer .now) (84 ∷ []) _ (l .0) (l .1 .0) (l .1 .1 .0) _ (b .read-fields .ensures .0) (e .if1 .left)
     (done-leaves (c .good2 .ensures) refl refl (rw (t .said, t .told) at (c .before .before .before .say-info .ensures)))
 
 pub get-info-spec : {M : Type 1} → statement M

@@ -24,7 +24,8 @@ same-length-2 c = search needs
 returns : tie.Need-returns
 unfolding looks
 returns c =
-    if-so _ _ _ (sym (c .before .before .before .before .before .before .before .before .is-word .ensures) ∙ c .before .before .before .before .before .before .before .if1 .taken) (c .before .before .before .before .digest .ensures)
+    let w1 = c .before .before .before .before .before .before .before .before in
+    if-so _ _ _ (sym (w1 .is-word .ensures) ∙ c .before .before .before .before .before .before .before .if1 .taken) (c .before .before .before .before .digest .ensures)
 
 slice-aggregate-is-word-2 : tie.Need-slice-aggregate-is-word-2
 slice-aggregate-is-word-2 c = search needs
@@ -44,8 +45,10 @@ same-length-4 c = search needs
 returns-2 : tie.Need-returns-2
 unfolding looks
 returns-2 c =
-    if-not _ _ _ (sym (c .before .before .before .before .before .before .before .before .before .before .before .is-word .ensures) ∙ c .before .before .before .before .before .before .before .before .before .before .if1 .left)
-    (if-so _ _ _ (sym (c .before .before .before .before .before .before .before .before .is-word2 .ensures) ∙ c .before .before .before .before .before .before .before .if2 .taken) (c .before .before .before .before .block .ensures))
+    let w2 = c .before .before .before .before .before .before .before .before in
+    let w1 = w2 .before .before .before in
+    if-not _ _ _ (sym (w1 .is-word .ensures) ∙ w2 .before .before .if1 .left)
+    (if-so _ _ _ (sym (w2 .is-word2 .ensures) ∙ c .before .before .before .before .before .before .before .if2 .taken) (c .before .before .before .before .block .ensures))
 
 slice-aggregate-is-word-3 : tie.Need-slice-aggregate-is-word-3
 slice-aggregate-is-word-3 c = search needs
@@ -65,9 +68,12 @@ same-length-6 c = search needs
 returns-3 : tie.Need-returns-3
 unfolding looks
 returns-3 c =
-    if-not _ _ _ (sym (c .before .before .before .before .before .before .before .before .before .before .before .before .before .before .is-word .ensures) ∙ c .before .before .before .before .before .before .before .before .before .before .before .before .before .if1 .left)
-    (if-not _ _ _ (sym (c .before .before .before .before .before .before .before .before .before .before .before .is-word2 .ensures) ∙ c .before .before .before .before .before .before .before .before .before .before .if2 .left)
-    (if-so _ _ _ (sym (c .before .before .before .before .before .before .before .before .is-word3 .ensures) ∙ c .before .before .before .before .before .before .before .if3 .taken) (c .before .before .before .before .space .ensures)))
+    let w3 = c .before .before .before .before .before .before .before .before in
+    let w2 = w3 .before .before .before in
+    let w1 = w2 .before .before .before in
+    if-not _ _ _ (sym (w1 .is-word .ensures) ∙ w2 .before .before .if1 .left)
+    (if-not _ _ _ (sym (w2 .is-word2 .ensures) ∙ w3 .before .before .if2 .left)
+    (if-so _ _ _ (sym (w3 .is-word3 .ensures) ∙ c .before .before .before .before .before .before .before .if3 .taken) (c .before .before .before .before .space .ensures)))
 
 slice-aggregate-is-word-4 : tie.Need-slice-aggregate-is-word-4
 slice-aggregate-is-word-4 c = search needs
@@ -87,10 +93,14 @@ same-length-8 c = search needs
 returns-4 : tie.Need-returns-4
 unfolding looks
 returns-4 c =
-    if-not _ _ _ (sym (c .before .before .before .before .before .before .before .before .before .before .before .before .before .before .before .before .before .is-word .ensures) ∙ c .before .before .before .before .before .before .before .before .before .before .before .before .before .before .before .before .if1 .left)
-    (if-not _ _ _ (sym (c .before .before .before .before .before .before .before .before .before .before .before .before .before .before .is-word2 .ensures) ∙ c .before .before .before .before .before .before .before .before .before .before .before .before .before .if2 .left)
-    (if-not _ _ _ (sym (c .before .before .before .before .before .before .before .before .before .before .before .is-word3 .ensures) ∙ c .before .before .before .before .before .before .before .before .before .before .if3 .left)
-    (if-so _ _ _ (sym (c .before .before .before .before .before .before .before .before .is-word4 .ensures) ∙ c .before .before .before .before .before .before .before .if4 .taken) (c .before .before .before .before .get-info .ensures))))
+    let w4 = c .before .before .before .before .before .before .before .before in
+    let w3 = w4 .before .before .before in
+    let w2 = w3 .before .before .before in
+    let w1 = w2 .before .before .before in
+    if-not _ _ _ (sym (w1 .is-word .ensures) ∙ w2 .before .before .if1 .left)
+    (if-not _ _ _ (sym (w2 .is-word2 .ensures) ∙ w3 .before .before .if2 .left)
+    (if-not _ _ _ (sym (w3 .is-word3 .ensures) ∙ w4 .before .before .if3 .left)
+    (if-so _ _ _ (sym (w4 .is-word4 .ensures) ∙ c .before .before .before .before .before .before .before .if4 .taken) (c .before .before .before .before .get-info .ensures))))
 
 slice-aggregate-is-word-5 : tie.Need-slice-aggregate-is-word-5
 slice-aggregate-is-word-5 c = search needs
@@ -110,11 +120,16 @@ same-length-10 c = search needs
 returns-5 : tie.Need-returns-5
 unfolding looks
 returns-5 c =
-    if-not _ _ _ (sym (c .before .before .before .before .before .before .before .before .before .before .before .before .before .before .before .before .before .before .before .before .is-word .ensures) ∙ c .before .before .before .before .before .before .before .before .before .before .before .before .before .before .before .before .before .before .before .if1 .left)
-    (if-not _ _ _ (sym (c .before .before .before .before .before .before .before .before .before .before .before .before .before .before .before .before .before .is-word2 .ensures) ∙ c .before .before .before .before .before .before .before .before .before .before .before .before .before .before .before .before .if2 .left)
-    (if-not _ _ _ (sym (c .before .before .before .before .before .before .before .before .before .before .before .before .before .before .is-word3 .ensures) ∙ c .before .before .before .before .before .before .before .before .before .before .before .before .before .if3 .left)
-    (if-not _ _ _ (sym (c .before .before .before .before .before .before .before .before .before .before .before .is-word4 .ensures) ∙ c .before .before .before .before .before .before .before .before .before .before .if4 .left)
-    (if-so _ _ _ (sym (c .before .before .before .before .before .before .before .before .is-word5 .ensures) ∙ c .before .before .before .before .before .before .before .if5 .taken) (c .before .before .before .before .read .ensures)))))
+    let w5 = c .before .before .before .before .before .before .before .before in
+    let w4 = w5 .before .before .before in
+    let w3 = w4 .before .before .before in
+    let w2 = w3 .before .before .before in
+    let w1 = w2 .before .before .before in
+    if-not _ _ _ (sym (w1 .is-word .ensures) ∙ w2 .before .before .if1 .left)
+    (if-not _ _ _ (sym (w2 .is-word2 .ensures) ∙ w3 .before .before .if2 .left)
+    (if-not _ _ _ (sym (w3 .is-word3 .ensures) ∙ w4 .before .before .if3 .left)
+    (if-not _ _ _ (sym (w4 .is-word4 .ensures) ∙ w5 .before .before .if4 .left)
+    (if-so _ _ _ (sym (w5 .is-word5 .ensures) ∙ c .before .before .before .before .before .before .before .if5 .taken) (c .before .before .before .before .read .ensures)))))
 
 slice-aggregate-is-word-6 : tie.Need-slice-aggregate-is-word-6
 slice-aggregate-is-word-6 c = search needs
@@ -134,12 +149,18 @@ same-length-12 c = search needs
 returns-6 : tie.Need-returns-6
 unfolding looks
 returns-6 c =
-    if-not _ _ _ (sym (c .before .before .before .before .before .before .before .before .before .before .before .before .before .before .before .before .before .before .before .before .before .before .before .is-word .ensures) ∙ c .before .before .before .before .before .before .before .before .before .before .before .before .before .before .before .before .before .before .before .before .before .before .if1 .left)
-    (if-not _ _ _ (sym (c .before .before .before .before .before .before .before .before .before .before .before .before .before .before .before .before .before .before .before .before .is-word2 .ensures) ∙ c .before .before .before .before .before .before .before .before .before .before .before .before .before .before .before .before .before .before .before .if2 .left)
-    (if-not _ _ _ (sym (c .before .before .before .before .before .before .before .before .before .before .before .before .before .before .before .before .before .is-word3 .ensures) ∙ c .before .before .before .before .before .before .before .before .before .before .before .before .before .before .before .before .if3 .left)
-    (if-not _ _ _ (sym (c .before .before .before .before .before .before .before .before .before .before .before .before .before .before .is-word4 .ensures) ∙ c .before .before .before .before .before .before .before .before .before .before .before .before .before .if4 .left)
-    (if-not _ _ _ (sym (c .before .before .before .before .before .before .before .before .before .before .before .is-word5 .ensures) ∙ c .before .before .before .before .before .before .before .before .before .before .if5 .left)
-    (if-so _ _ _ (sym (c .before .before .before .before .before .before .before .before .is-word6 .ensures) ∙ c .before .before .before .before .before .before .before .if6 .taken) (c .before .before .before .before .find .ensures))))))
+    let w6 = c .before .before .before .before .before .before .before .before in
+    let w5 = w6 .before .before .before in
+    let w4 = w5 .before .before .before in
+    let w3 = w4 .before .before .before in
+    let w2 = w3 .before .before .before in
+    let w1 = w2 .before .before .before in
+    if-not _ _ _ (sym (w1 .is-word .ensures) ∙ w2 .before .before .if1 .left)
+    (if-not _ _ _ (sym (w2 .is-word2 .ensures) ∙ w3 .before .before .if2 .left)
+    (if-not _ _ _ (sym (w3 .is-word3 .ensures) ∙ w4 .before .before .if3 .left)
+    (if-not _ _ _ (sym (w4 .is-word4 .ensures) ∙ w5 .before .before .if4 .left)
+    (if-not _ _ _ (sym (w5 .is-word5 .ensures) ∙ w6 .before .before .if5 .left)
+    (if-so _ _ _ (sym (w6 .is-word6 .ensures) ∙ c .before .before .before .before .before .before .before .if6 .taken) (c .before .before .before .before .find .ensures))))))
 
 bad-requires : tie.Need-bad-requires
 bad-requires c κs = search needs
@@ -147,12 +168,18 @@ bad-requires c κs = search needs
 returns-7 : tie.Need-returns-7
 unfolding looks
 returns-7 c =
-    if-not _ _ _ (sym (c .before .before .before .before .before .before .before .before .before .before .before .before .before .before .before .before .before .is-word .ensures) ∙ c .before .before .before .before .before .before .before .before .before .before .before .before .before .before .before .before .if1 .left)
-    (if-not _ _ _ (sym (c .before .before .before .before .before .before .before .before .before .before .before .before .before .before .is-word2 .ensures) ∙ c .before .before .before .before .before .before .before .before .before .before .before .before .before .if2 .left)
-    (if-not _ _ _ (sym (c .before .before .before .before .before .before .before .before .before .before .before .is-word3 .ensures) ∙ c .before .before .before .before .before .before .before .before .before .before .if3 .left)
-    (if-not _ _ _ (sym (c .before .before .before .before .before .before .before .before .is-word4 .ensures) ∙ c .before .before .before .before .before .before .before .if4 .left)
-    (if-not _ _ _ (sym (c .before .before .before .before .before .is-word5 .ensures) ∙ c .before .before .before .before .if5 .left)
-    (if-not _ _ _ (sym (c .before .before .is-word6 .ensures) ∙ c .before .if6 .left)
+    let w6 = c .before .before in
+    let w5 = w6 .before .before .before in
+    let w4 = w5 .before .before .before in
+    let w3 = w4 .before .before .before in
+    let w2 = w3 .before .before .before in
+    let w1 = w2 .before .before .before in
+    if-not _ _ _ (sym (w1 .is-word .ensures) ∙ w2 .before .before .if1 .left)
+    (if-not _ _ _ (sym (w2 .is-word2 .ensures) ∙ w3 .before .before .if2 .left)
+    (if-not _ _ _ (sym (w3 .is-word3 .ensures) ∙ w4 .before .before .if3 .left)
+    (if-not _ _ _ (sym (w4 .is-word4 .ensures) ∙ w5 .before .before .if4 .left)
+    (if-not _ _ _ (sym (w5 .is-word5 .ensures) ∙ w6 .before .before .if5 .left)
+    (if-not _ _ _ (sym (w6 .is-word6 .ensures) ∙ c .before .if6 .left)
     (none-leaves (c .bad .ensures)))))))
 
 pub look-spec : {M : Type 1} → statement M

@@ -95,7 +95,8 @@ same-length-4 c = search needs
 returns-3 : tie.Need-returns-3
 unfolding readDoes readOutcome
 returns-3 c =
-    let b = c .before .before .before .before .before .before .before .before .before .before .before .before .before .before .before in
+    let e = c .before .before .before .before .before .before .before .before .before .before in
+    let b = e .before .before .before .before .before in
     let a = b .before .before .before .before .before .before .before .before .before .args in
     let l = b .read-fields .last .1 .1 .1 in
     let i = a .img .now in
@@ -104,14 +105,15 @@ returns-3 c =
     let k = view (l .0) 2 in
     let y = c .before .before .before .before .read-into in
     let s = sheet (a .ink) (a .page .now) in
-    let h : z ≤ length (l .1 .0) = omega (arith, b .read-fields .ensures .1 (not-false _ (c .before .before .before .before .before .before .before .before .before .before .if1 .left)) 0 (omega arith)) in
+    let h : z ≤ length (l .1 .0) = omega (arith, b .read-fields .ensures .1 (not-false _ (e .if1 .left)) 0 (omega arith)) in
     let m : k ≤ length x = c .before .before .before .before .before .before .before .before .before .if2 .left in
     let n = length (take (k - 0) (drop 0 x)) in
     let q = part-as (λ f j. ReadsInto (read (length i) (view i) f j (view (l .0) 1) (equals n 0xA5) n) n s (y .result) (y .last .1 .1 .1 .0) (y .last .1 .1 .1 .1 .0)) (l .1 .0) 0 z z (omega arith) h (y .ensures) in
     let w = part-as (λ f j. ReadsInto (read (length i) (view i) (cut (view (l .1 .0)) 0 z) z (view (l .0) 1) (equals j 0xA5) j) j s (y .result) (y .last .1 .1 .1 .0) (y .last .1 .1 .1 .1 .0)) x 0 k k (omega arith) m q in
-    good-leaves (a .line .now) (a .at) (a .img .now) (a .buffer .now) (84 ∷ 78 ∷ 78 ∷ []) _ (l .0) (l .1 .0) (l .1 .1 .0) _ (b .read-fields .ensures .0) (c .before .before .before .before .before .before .before .before .before .before .if1 .left)
+    let d = y .kept .1 .1 .1 .0 ∙ part-as (λ f j. n ≡ j) x 0 k k (omega arith) m refl in
+    good-leaves (a .line .now) (a .at) (a .img .now) (a .buffer .now) (84 ∷ 78 ∷ 78 ∷ []) _ (l .0) (l .1 .0) (l .1 .1 .0) _ (b .read-fields .ensures .0) (e .if1 .left)
     (if-so _ _ _ (le-leb k (length (a .buffer .now)) (omega (arith, b .read-fields .kept .1 .1 .1 .1 .1 .0)))
-    (record { good = w .good; image = refl; buffer = front-back x (y .last .1 .1 .1 .0) k m (y .kept .1 .1 .1 .0 ∙ part-as (λ f j. n ≡ j) x 0 k k (omega arith) m refl) ∙ ap (paste (view x) 0 k) (w .buffer); page = w .page }))
+    (record { good = w .good; image = refl; buffer = front-back x (y .last .1 .1 .1 .0) k m d ∙ ap (paste (view x) 0 k) (w .buffer); page = w .page }))
 
 pub read-spec : {M : Type 1} → statement M
 read-spec =

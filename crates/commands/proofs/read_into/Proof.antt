@@ -27,10 +27,14 @@ same-length-2 c = search needs
 
 returns : tie.Need-returns
 returns c =
-    let a = c .before .before .before .before .before .before .before .before .before .before .before .before .before .before .before .before .before .before .args in
+    let d = c .before .before .before .before .before .before .before .before in
+    let f = d .before .before .before .before in
+    let a = f .before .before .before .before .before .before .args in
     let i = a .img .now in
     let p = a .path .now in
-    into-reads (read-filled (length i) (view i) (view p) (length p) (a .position) 165 (a .buffer .now) (c .before .before .before .before .before .before .before .before .before .before .before .before .fill-run .last .0) (omega arith) (c .before .before .before .before .before .before .before .before .before .before .before .before .fill-run .ensures) (c .before .before .before .before .before .before .before .before .read .ensures)) (c .good2 .ensures) (c .before .before .before .say-read .ensures)
+    into-reads (read-filled (length i) (view i) (view p) (length p) (a .position) 0xA5 (a .buffer .now) (f .fill-run .last .0) (omega arith) (f .fill-run .ensures) (d .read .ensures))
+    (c .good2 .ensures)
+    (c .before .before .before .say-read .ensures)
 
 pub read-into-spec : {M : Type 1} → statement M
 read-into-spec =

@@ -26,7 +26,9 @@ same-length-3 c = search needs
 
 returns : tie.Need-returns
 unfolding runs
-returns c = if-so _ _ _ (sym (c .before .before .before .before .before .before .before .before .before .before .before .is-word .ensures) ∙ c .before .before .before .before .before .before .before .before .before .before .if1 .taken) (c .before .before .before .before .before .before .set .ensures)
+returns c =
+    let w1 = c .before .before .before .before .before .before .before .before .before .before .before in
+    if-so _ _ _ (sym (w1 .is-word .ensures) ∙ c .before .before .before .before .before .before .before .before .before .before .if1 .taken) (c .before .before .before .before .before .before .set .ensures)
 
 slice-aggregate-is-word-2 : tie.Need-slice-aggregate-is-word-2
 slice-aggregate-is-word-2 c = search needs
@@ -49,8 +51,10 @@ same-length-6 c = search needs
 returns-2 : tie.Need-returns-2
 unfolding runs
 returns-2 c =
-    if-not _ _ _ (sym (c .before .before .before .before .before .before .before .before .before .before .before .before .before .before .is-word .ensures) ∙ c .before .before .before .before .before .before .before .before .before .before .before .before .before .if1 .left)
-    (if-so _ _ _ (sym (c .before .before .before .before .before .before .before .before .before .before .before .is-word2 .ensures) ∙ c .before .before .before .before .before .before .before .before .before .before .if2 .taken) (c .before .before .before .before .before .before .set-run .ensures))
+    let w2 = c .before .before .before .before .before .before .before .before .before .before .before in
+    let w1 = w2 .before .before .before in
+    if-not _ _ _ (sym (w1 .is-word .ensures) ∙ w2 .before .before .if1 .left)
+    (if-so _ _ _ (sym (w2 .is-word2 .ensures) ∙ c .before .before .before .before .before .before .before .before .before .before .if2 .taken) (c .before .before .before .before .before .before .set-run .ensures))
 
 look-requires : tie.Need-look-requires
 look-requires c κs = search needs
@@ -67,8 +71,10 @@ same-length-9 c = search needs
 returns-3 : tie.Need-returns-3
 unfolding runs
 returns-3 c =
-    if-not _ _ _ (sym (c .before .before .before .before .before .before .before .before .before .before .before .before .is-word .ensures) ∙ c .before .before .before .before .before .before .before .before .before .before .before .if1 .left)
-    (if-not _ _ _ (sym (c .before .before .before .before .before .before .before .before .before .is-word2 .ensures) ∙ c .before .before .before .before .before .before .before .before .if2 .left) (c .before .before .before .before .look .ensures))
+    let w2 = c .before .before .before .before .before .before .before .before .before in
+    let w1 = w2 .before .before .before in
+    if-not _ _ _ (sym (w1 .is-word .ensures) ∙ w2 .before .before .if1 .left)
+    (if-not _ _ _ (sym (w2 .is-word2 .ensures) ∙ c .before .before .before .before .before .before .before .before .if2 .left) (c .before .before .before .before .look .ensures))
 
 pub run-spec : {M : Type 1} → statement M
 run-spec =

@@ -45,7 +45,9 @@ array-read-count : tie.Need-array-read-count
 array-read-count c = search needs
 
 add-if2 : tie.Need-add-if2
-add-if2 c = omega (arith, c .before .before .before .before .before .read-fields .ensures .1 (not-false _ (c .if1 .left)) 0 (omega arith), c .before .before .before .before .before .read-fields .ensures .1 (not-false _ (c .if1 .left)) 1 (omega arith))
+add-if2 c =
+    let f = c .before .before .before .before .before .read-fields .ensures .1 (not-false _ (c .if1 .left)) in
+    omega (arith, f 0 (omega arith), f 1 (omega arith))
 
 bad-requires-2 : tie.Need-bad-requires-2
 bad-requires-2 c κs = search needs
@@ -89,11 +91,15 @@ same-length-5 c = search needs
 returns-3 : tie.Need-returns-3
 unfolding setDoes laidIn
 returns-3 c =
-    let b = c .before .before .before .before .before .before .before .before .before .before .before .before .before .before .before .before .before .before in
+    let e = c .before .before .before .before .before .before .before .before .before .before .before .before .before in
+    let b = e .before .before .before .before .before in
     let a = b .before .before .before .before .before .before .before .before .before .args in
     let l = b .read-fields .last .1 .1 .1 in
-    good-leaves (a .line .now) (a .at) (a .img .now) (a .buffer .now) (78 ∷ 68 ∷ []) _ (l .0) (l .1 .0) (l .1 .1 .0) _ (b .read-fields .ensures .0) (c .before .before .before .before .before .before .before .before .before .before .before .before .before .if1 .left)
-    (if-so _ _ _ (le-leb (view (l .0) 0 + view (l .0) 1) (length (a .img .now)) (c .before .before .before .before .before .before .before .before .before .before .before .before .if2 .left)) (done-leaves (c .good2 .ensures) (c .before .before .before .before .before .before .before .before .before .copy-run .ensures ∙ ap (paste (view (a .img .now)) (view (l .0) 0) (view (l .0) 1)) (from-start (view (l .1 .1 .0)))) refl (c .before .before .before .say-ok .ensures)))
+    let x = view (l .0) 0 in
+    let k = view (l .0) 1 in
+    good-leaves (a .line .now) (a .at) (a .img .now) (a .buffer .now) (78 ∷ 68 ∷ []) _ (l .0) (l .1 .0) (l .1 .1 .0) _ (b .read-fields .ensures .0) (e .if1 .left)
+    (if-so _ _ _ (le-leb (x + k) (length (a .img .now)) (c .before .before .before .before .before .before .before .before .before .before .before .before .if2 .left))
+    (done-leaves (c .good2 .ensures) (c .before .before .before .before .before .before .before .before .before .copy-run .ensures ∙ ap (paste (view (a .img .now)) x k) (from-start (view (l .1 .1 .0)))) refl (c .before .before .before .say-ok .ensures)))
 
 pub set-spec : {M : Type 1} → statement M
 set-spec =
