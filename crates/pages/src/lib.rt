@@ -3,7 +3,7 @@ ghost use mathlib.Core.Path.{_≡_};
 ghost use lib.ListN.{length};
 ghost use Rattle.model.specs.Bytes.{view};
 ghost use Rattle.model.specs.Catalog.{catalog};
-ghost use Rattle.listing.specs.Ink.{Shows};
+ghost use Rattle.ink.specs.Ink.{Shows};
 use opening::Volume;
 
 const MOST: usize = 65536;
