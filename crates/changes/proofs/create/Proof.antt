@@ -1,0 +1,66 @@
+use borrow.Author.Needs.{needs}
+use Rattle.changes.proofs.create.Statement.{statement}
+use Rattle.changes.proofs.create.Tie as tie
+use Rattle.changes.proofs.create.Reads as reads
+use Rattle.changes.proofs.create.Lts as lts
+
+element-copy-out-size : tie.Need-element-copy-out-size
+element-copy-out-size c = search needs
+
+element-copy-out-kind : tie.Need-element-copy-out-kind
+element-copy-out-kind c = search needs
+
+cast-kind : tie.Need-cast-kind
+cast-kind c = ?
+
+element-copy-out-ftype : tie.Need-element-copy-out-ftype
+element-copy-out-ftype c = search needs
+
+cast-ftype : tie.Need-cast-ftype
+cast-ftype c = ?
+
+element-copy-out-aux : tie.Need-element-copy-out-aux
+element-copy-out-aux c = search needs
+
+cast-aux : tie.Need-cast-aux
+cast-aux c = ?
+
+stamp-of-requires : tie.Need-stamp-of-requires
+stamp-of-requires c κs = ?
+
+sub-create : tie.Need-sub-create
+sub-create c = search needs
+
+part-create-start : tie.Need-part-create-start
+part-create-start c = search needs
+
+part-create-end : tie.Need-part-create-end
+part-create-end c = ?
+
+create-requires : tie.Need-create-requires
+create-requires c κs = search needs
+
+same-length : tie.Need-same-length
+same-length c = search needs
+
+returns : tie.Need-returns
+returns c = ?
+
+pub create-spec : {M : Type 1} → statement M
+create-spec =
+    tie.close
+    (tie.spec
+    element-copy-out-size
+    element-copy-out-kind
+    cast-kind
+    element-copy-out-ftype
+    cast-ftype
+    element-copy-out-aux
+    cast-aux
+    stamp-of-requires
+    sub-create
+    part-create-start
+    part-create-end
+    create-requires
+    same-length
+    returns)
