@@ -80,7 +80,7 @@ abbrev pub moved : Outcome ℕ → Bytes → Left
 moved o b = record { good = true; text = reply (o .number) (okLine (number ∷ []) (o .parts ∷ [])); image = o .image; buffer = b }
 
 -- `fill`, with a buffer of m bytes
-abbrev pub filled : ℕ → Bytes → ℕ → Fields → Left
+unfoldable pub filled : ℕ → Bytes → ℕ → Fields → Left
 filled n v m f =
     elim (leb (f .values 4) m) [
       | true ↦ moved (written n v f (paste (f .buffer) 0 (f .values 4) (same (f .values 5)))) (paste (f .buffer) 0 (f .values 4) (same (f .values 5)))

@@ -178,7 +178,7 @@ fn say(page: &mut [u8], ink: Ink, done: Done) -> Said
 }
 
 fn forms_of(call: Call) -> Forms
-    ensures { λ r. ⌜ (r .start ≤ r .end) × (r .end ≤ length allForms) × (take (r .end - r .start) (drop (r .start) allForms) ≡ formsOf call) ⌝ }
+    ensures { λ r. ⌜ (r .start ≤ r .end) × (r .end ≤ r .start + 8) × (r .end ≤ length allForms) × (take (r .end - r .start) (drop (r .start) allForms) ≡ formsOf call) ⌝ }
 {
     match call {
         Call::Format => Forms { start: 0, end: 3 },

@@ -1,3 +1,9 @@
+-- `changes::run` meets its contract. Assumes nothing.
+use mathlib.Core.Path.{ap, _∙_}
+use Rattle.commands.specs.Scenes.{scene}
+use Rattle.changes.specs.declared.Word.{Word}
+use Rattle.changes.specs.Acts.{wordDoes}
+use Rattle.changes.proofs.ChangeLaws.{leaves-as}
 use borrow.Author.Needs.{needs}
 use Rattle.changes.proofs.run.Statement.{statement}
 use Rattle.changes.proofs.run.Tie as tie
@@ -29,7 +35,12 @@ same-length-3 : tie.Need-same-length-3
 same-length-3 c = search needs
 
 returns : tie.Need-returns
-returns c = ?
+unfolding wordDoes
+returns c =
+    let a = c .before .before .before .before .before .before .before .before .before .before .before .before .before .before .before .before .before .before .args in
+    leaves-as
+    (c .before .before .before .before .before .before .before .before .before .before .before .before .before .word-of .ensures (a .img .now) (a .buffer .now) ∙ ap (λ (w : Word). wordDoes w (scene (a .line .now) (a .at) (a .img .now) (a .buffer .now))) (c .before .before .before .before .before .before .before .before .before .before .before .call .given .1))
+    (c .before .before .before .before .before .before .change .ensures)
 
 same-length-4 : tie.Need-same-length-4
 same-length-4 c = search needs
@@ -41,7 +52,12 @@ same-length-6 : tie.Need-same-length-6
 same-length-6 c = search needs
 
 returns-2 : tie.Need-returns-2
-returns-2 c = ?
+unfolding wordDoes
+returns-2 c =
+    let a = c .before .before .before .before .before .before .before .before .before .before .before .before .before .before .before .before .before .args in
+    leaves-as
+    (c .before .before .before .before .before .before .before .before .before .before .before .before .word-of .ensures (a .img .now) (a .buffer .now) ∙ ap (λ (w : Word). wordDoes w (scene (a .line .now) (a .at) (a .img .now) (a .buffer .now))) (c .before .before .before .before .before .before .before .before .before .before .enum-told .given .1))
+    (c .before .before .before .before .before .before .run .ensures)
 
 pub run-spec : {M : Type 1} → statement M
 run-spec =

@@ -1,3 +1,6 @@
+-- `changes::say` meets its contract. Assumes nothing.
+use mathlib.Core.Path.{refl}
+use Rattle.ink.proofs.InkLaws.{prints-none}
 use borrow.Author.Needs.{needs}
 use Rattle.changes.proofs.say.Statement.{statement}
 use Rattle.changes.proofs.say.Tie as tie
@@ -23,16 +26,16 @@ same-length : tie.Need-same-length
 same-length c = search needs
 
 returns : tie.Need-returns
-returns c = ?
+returns c = rw (c .before .before .before .before .before .done .given .1) (record { good = refl; page = c .before .before .say-answer .ensures })
 
 same-length-2 : tie.Need-same-length-2
 same-length-2 c = search needs
 
 returns-2 : tie.Need-returns-2
-returns-2 c = ?
+returns-2 c = rw (c .before .before .before .before .before .done2 .given .1) (record { good = refl; page = c .before .before .say-transfer .ensures })
 
 returns-3 : tie.Need-returns-3
-returns-3 c = ?
+returns-3 c = rw (c .enum-told .given .1) (record { good = refl; page = prints-none })
 
 pub say-spec : {M : Type 1} → statement M
 say-spec =
