@@ -1,5 +1,5 @@
 -- What the calls and the commands share: the command of a call is to obey its line, and what a call leaves as what was done. Assumes nothing.
-use Prim.Native.Nat.{ℕ, zero, suc, _+_, _-_, _≤_, _<_}
+use Prim.Native.Nat.{ℕ, _+_, _-_, _≤_, _<_}
 use mathlib.Core.Path.{_≡_, refl, sym, ap, subst, _∙_}
 use mathlib.Core.List.{List, [], _∷_}
 use mathlib.Core.Bool.{Bool, true, false, not}
@@ -11,14 +11,14 @@ use Rattle.model.proofs.ByteLaws.{length-part}
 use Rattle.model.specs.declared.Stamp.{Stamp}
 use Rattle.model.specs.Refusals.{Outcome}
 use Rattle.model.specs.Calls.{Nothing}
-use Rattle.model.specs.Answers.{Does, Writes, answerNumber, transferNumber, transferred}
+use Rattle.model.specs.Answers.{Does, Writes}
 use Rattle.model.specs.declared.Answer.{Answer}
 use Rattle.model.specs.declared.Transfer.{Transfer}
-use Rattle.ink.specs.Ink.{Sheet, sheet, Prints}
+use Rattle.ink.specs.Ink.{Sheet, sheet}
 use Rattle.ink.specs.declared.Ink.{Ink}
 use Rattle.ink.proofs.InkLaws.{prints-as}
 use Rattle.script.specs.Fields.{Fields, Fits}
-use Rattle.replies.specs.Lines.{okLine, reply, number}
+use Rattle.replies.specs.Lines.{okLine, reply}
 use Rattle.commands.specs.declared.Said.{Said}
 use Rattle.commands.specs.Scenes.{Scene, Left, scene, Leaves, obeyed, cut}
 use Rattle.commands.specs.Commands.{same, says, runs}

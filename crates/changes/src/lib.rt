@@ -171,8 +171,14 @@ fn say(page: &mut [u8], ink: Ink, done: Done) -> Said
     ensures { λ r. ⌜ Says done (sheet ink (now (page .entry))) r (now (page .exit)) ⌝ }
 {
     match done {
-        Done::Answered(answer) => Said { ink: replies::say_answer(page, ink, answer), good: true },
-        Done::Moved(transfer) => Said { ink: replies::say_transfer(page, ink, transfer), good: true },
+        Done::Answered(answer) => Said {
+            ink: replies::say_answer(page, ink, answer),
+            good: true,
+        },
+        Done::Moved(transfer) => Said {
+            ink: replies::say_transfer(page, ink, transfer),
+            good: true,
+        },
         Done::Bad => Said { ink, good: false },
     }
 }

@@ -9,8 +9,6 @@ use Rattle.changes.proofs.ChangeLaws.{part-short, fitting, change-bad, 
 use borrow.Author.Needs.{needs}
 use Rattle.changes.proofs.change.Statement.{statement}
 use Rattle.changes.proofs.change.Tie as tie
-use Rattle.changes.proofs.change.Reads as reads
-use Rattle.changes.proofs.change.Lts as lts
 
 forms-of-requires : tie.Need-forms-of-requires
 forms-of-requires c κs = search needs

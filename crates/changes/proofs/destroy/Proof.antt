@@ -1,7 +1,6 @@
 -- `changes::destroy` meets its contract. Assumes nothing.
-use mathlib.Core.Path.{refl}
 use native.Mathlib.Omega.{arith}
-use lib.ListN.{length, take, drop}
+use lib.ListN.{length}
 use Rattle.model.specs.Bytes.{view}
 use Rattle.model.specs.Answers.{Does}
 use Rattle.model.specs.Destroy.{destroy}
@@ -9,8 +8,6 @@ use Rattle.changes.proofs.SceneLaws.{part-as}
 use borrow.Author.Needs.{needs}
 use Rattle.changes.proofs.destroy.Statement.{statement}
 use Rattle.changes.proofs.destroy.Tie as tie
-use Rattle.changes.proofs.destroy.Reads as reads
-use Rattle.changes.proofs.destroy.Lts as lts
 
 element-copy-out-size : tie.Need-element-copy-out-size
 element-copy-out-size c = search needs

@@ -8,8 +8,6 @@ use Rattle.changes.proofs.ChangeLaws.{fill-bad, fill-done}
 use borrow.Author.Needs.{needs}
 use Rattle.changes.proofs.fill.Statement.{statement}
 use Rattle.changes.proofs.fill.Tie as tie
-use Rattle.changes.proofs.fill.Reads as reads
-use Rattle.changes.proofs.fill.Lts as lts
 
 element-copy-out-count : tie.Need-element-copy-out-count
 element-copy-out-count c = search needs

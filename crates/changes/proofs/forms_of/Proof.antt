@@ -5,8 +5,6 @@ use Rattle.changes.specs.Acts.{formsOf}
 use borrow.Author.Needs.{needs}
 use Rattle.changes.proofs.forms_of.Statement.{statement}
 use Rattle.changes.proofs.forms_of.Tie as tie
-use Rattle.changes.proofs.forms_of.Reads as reads
-use Rattle.changes.proofs.forms_of.Lts as lts
 
 enum-told : tie.Need-enum-told
 enum-told c = search needs

@@ -8,8 +8,6 @@ use Rattle.changes.proofs.ChangeLaws.{does-performs, writes-performs, a
 use borrow.Author.Needs.{needs}
 use Rattle.changes.proofs.perform.Statement.{statement}
 use Rattle.changes.proofs.perform.Tie as tie
-use Rattle.changes.proofs.perform.Reads as reads
-use Rattle.changes.proofs.perform.Lts as lts
 
 enum-told : tie.Need-enum-told
 enum-told c = search needs

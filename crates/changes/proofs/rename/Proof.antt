@@ -11,8 +11,6 @@ use Rattle.changes.proofs.SceneLaws.{part-as}
 use borrow.Author.Needs.{needs}
 use Rattle.changes.proofs.rename.Statement.{statement}
 use Rattle.changes.proofs.rename.Tie as tie
-use Rattle.changes.proofs.rename.Reads as reads
-use Rattle.changes.proofs.rename.Lts as lts
 
 element-copy-out-size : tie.Need-element-copy-out-size
 element-copy-out-size c = search needs

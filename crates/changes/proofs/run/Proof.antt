@@ -7,8 +7,6 @@ use Rattle.changes.proofs.ChangeLaws.{leaves-as}
 use borrow.Author.Needs.{needs}
 use Rattle.changes.proofs.run.Statement.{statement}
 use Rattle.changes.proofs.run.Tie as tie
-use Rattle.changes.proofs.run.Reads as reads
-use Rattle.changes.proofs.run.Lts as lts
 
 word-of-requires : tie.Need-word-of-requires
 word-of-requires c κs = search needs

@@ -4,8 +4,6 @@ use Rattle.ink.proofs.InkLaws.{prints-none}
 use borrow.Author.Needs.{needs}
 use Rattle.changes.proofs.say.Statement.{statement}
 use Rattle.changes.proofs.say.Tie as tie
-use Rattle.changes.proofs.say.Reads as reads
-use Rattle.changes.proofs.say.Lts as lts
 
 enum-known-done : tie.Need-enum-known-done
 enum-known-done c = search needs

@@ -1,7 +1,6 @@
 -- `changes::set_info` meets its contract. Assumes nothing.
-use mathlib.Core.Path.{refl}
 use native.Mathlib.Omega.{arith}
-use lib.ListN.{length, take, drop}
+use lib.ListN.{length}
 use Rattle.model.specs.Bytes.{view}
 use Rattle.model.specs.Answers.{Does}
 use Rattle.model.specs.Info.{setInfo}
@@ -9,8 +8,6 @@ use Rattle.changes.proofs.ChangeLaws.{text-as}
 use borrow.Author.Needs.{needs}
 use Rattle.changes.proofs.set_info.Statement.{statement}
 use Rattle.changes.proofs.set_info.Tie as tie
-use Rattle.changes.proofs.set_info.Reads as reads
-use Rattle.changes.proofs.set_info.Lts as lts
 
 element-copy-out-size : tie.Need-element-copy-out-size
 element-copy-out-size c = search needs

@@ -6,8 +6,6 @@ use Rattle.changes.proofs.ChangeLaws.{format-word, create-word, destroy
 use borrow.Author.Needs.{needs}
 use Rattle.changes.proofs.word_of.Statement.{statement}
 use Rattle.changes.proofs.word_of.Tie as tie
-use Rattle.changes.proofs.word_of.Reads as reads
-use Rattle.changes.proofs.word_of.Lts as lts
 
 slice-aggregate-is-word : tie.Need-slice-aggregate-is-word
 slice-aggregate-is-word c = search needs

@@ -1,6 +1,5 @@
 -- `changes::write` meets its contract. Assumes nothing.
 use Prim.Native.Nat.{_-_}
-use mathlib.Core.Path.{refl}
 use native.Mathlib.Omega.{arith}
 use lib.ListN.{length, take, drop}
 use Rattle.model.specs.Bytes.{view}
@@ -14,8 +13,6 @@ use Rattle.changes.proofs.ChangeLaws.{text-as}
 use borrow.Author.Needs.{needs}
 use Rattle.changes.proofs.write.Statement.{statement}
 use Rattle.changes.proofs.write.Tie as tie
-use Rattle.changes.proofs.write.Reads as reads
-use Rattle.changes.proofs.write.Lts as lts
 
 element-copy-out-size : tie.Need-element-copy-out-size
 element-copy-out-size c = search needs
