@@ -1,0 +1,2 @@
+-- The laws of changes: what a line that is a call leaves.
+pub mod ChangeLaws
