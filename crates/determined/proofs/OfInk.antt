@@ -23,7 +23,10 @@ use Rattle.ink.proofs.emit_hex_byte.Kinds as emit-hex-byte-kinds
 pub prints-same : (text : List ℕ) (s : Sheet) (r₁ r₂ : Ink) (l₁ l₂ : List ℕ) → Prints text s (sheet r₁ l₁) → Prints text s (sheet r₂ l₂) → (r₁ ≡ r₂) × (l₁ ≡ l₂)
 prints-same text s r₁ r₂ l₁ l₂ p q =
     let e : sheet r₁ l₁ ≡ sheet r₂ l₂ = p .same ∙ sym (q .same) in
-    (ap (λ (t : Sheet). _:_ {A = Ink} (record { skip = t .skip; at = t .at })) e, same-list l₁ l₂ (length l₂) _ (ap (λ t. t .size) e) refl (ap (λ t. t .bytes) e) refl)
+    (ap ink e, same-list l₁ l₂ (length l₂) _ (ap (λ t. t .size) e) refl (ap (λ t. t .bytes) e) refl)
+  where
+    ink : Sheet → Ink
+    ink t = record { skip = t .skip; at = t .at }
 
 pub emit-byte-one : Determined _ emit-byte-kinds.ps emit-byte-kinds.r emit-byte-reads.Post (List ℕ) (λ _ _ w. w .0)
 emit-byte-one κs a r₁ r₂ w₁ w₂ p q = prints-same _ _ r₁ r₂ (w₁ .0) (w₂ .0) p q

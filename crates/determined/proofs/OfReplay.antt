@@ -2,11 +2,12 @@
 use Prim.Native.Nat.{ℕ}
 use mathlib.Core.Path.{_≡_, refl, sym, ap, _∙_}
 use mathlib.Core.List.{List}
+use mathlib.Core.Bool.{Bool}
 use Rattle.model.specs.Bytes.{Bytes, view}
 use Rattle.ink.specs.Ink.{Sheet}
+use Rattle.ink.specs.declared.Ink.{Ink}
 use Rattle.commands.specs.Scenes.{Left, Leaves}
 use Rattle.commands.specs.declared.Said.{Said}
-use Rattle.player.specs.Played.{Stage}
 use Rattle.determined.proofs.Determined.{Determined, Nothing-seen, none-seen}
 use Rattle.determined.proofs.OfInk.{prints-same}
 use Rattle.commands.proofs.good.Reads as good-reads
@@ -32,12 +33,12 @@ pub fill-run-one : Determined _ fill-run-kinds.ps fill-run-kinds.r fill-run-read
 fill-run-one κs a r₁ r₂ w₁ w₂ p q = (refl, p ∙ sym q)
 
 -- image, buffer and page
-record Rooms : Type 0 where
-  image : Bytes
-  buffer : Bytes
-  page : Bytes
+pub record Rooms : Type 0 where
+  pub image : Bytes
+  pub buffer : Bytes
+  pub page : Bytes
 
-abbrev rooms : Bytes → Bytes → Bytes → Rooms
+abbrev pub rooms : Bytes → Bytes → Bytes → Rooms
 rooms f g h = record { image = f; buffer = g; page = h }
 
 rooms-same : {f₁ f₂ g₁ g₂ h₁ h₂ : Bytes} → f₁ ≡ f₂ → g₁ ≡ g₂ → h₁ ≡ h₂ → rooms f₁ g₁ h₁ ≡ rooms f₂ g₂ h₂
@@ -49,8 +50,11 @@ leaves-same o s r₁ r₂ i₁ b₁ p₁ i₂ b₂ p₂ l m =
     let e = prints-same (o .text) s (r₁ .ink) (r₂ .ink) p₁ p₂ (l .page) (m .page) in
     (said-same r₁ r₂ (e .0) (l .good ∙ sym (m .good)), rooms-same (l .image ∙ sym (m .image)) (l .buffer ∙ sym (m .buffer)) (ap view (e .1)))
   where
+    said : Ink → Bool → Said
+    said i g = record { ink = i; good = g }
+
     said-same : (r₁ r₂ : Said) → r₁ .ink ≡ r₂ .ink → r₁ .good ≡ r₂ .good → r₁ ≡ r₂
-    said-same r₁ r₂ p q = cc
+    said-same r₁ r₂ p q = ap (λ i. said i (r₁ .good)) p ∙ ap (said (r₂ .ink)) q
 
 pub commands-one : Determined _ commands-kinds.ps commands-kinds.r commands-reads.Post Rooms
     (λ _ _ w. rooms (view (w .1 .1 .0)) (view (w .1 .1 .1 .0)) (view (w .1 .1 .1 .1 .0)))

@@ -5,10 +5,15 @@ use player::IMAGE;
 use player::PAGE;
 use player::SCRIPT;
 
+fn play_from(file: i32, text: &mut [u8], image: &mut [u8], buffer: &mut [u8], page: &mut [u8]) {
+    let got = io::read_full(file, text);
+    player::play(&text[0..got], image, buffer, page);
+}
+
 fn play_file(
     name: &[u8],
     text: &mut [u8; SCRIPT],
-    room: &mut [u8; IMAGE],
+    image: &mut [u8; IMAGE],
     buffer: &mut [u8; BUFFER],
     page: &mut [u8; PAGE],
 ) {
@@ -19,32 +24,31 @@ fn play_file(
         os::fail(name);
         return;
     }
-    let got = io::read_full(file, text);
+    play_from(file, text, image, buffer, page);
     libc::close(file);
-    player::play(&text[0..got], room, buffer, page);
 }
 
 fn play_argument(
     i: usize,
     text: &mut [u8; SCRIPT],
-    room: &mut [u8; IMAGE],
+    image: &mut [u8; IMAGE],
     buffer: &mut [u8; BUFFER],
     page: &mut [u8; PAGE],
 ) {
     let mut name = [0u8; 256];
     let size = os::arg(i, &mut name);
     if size <= 256 {
-        play_file(&name[0..size], text, room, buffer, page);
+        play_file(&name[0..size], text, image, buffer, page);
     }
 }
 
 fn main() {
     let mut text = [0u8; SCRIPT];
-    let mut room = [0u8; IMAGE];
+    let mut image = [0u8; IMAGE];
     let mut buffer = [0u8; BUFFER];
     let mut page = [0u8; PAGE];
     let count = os::arg_count();
     for i in 1..count {
-        play_argument(i, &mut text, &mut room, &mut buffer, &mut page);
+        play_argument(i, &mut text, &mut image, &mut buffer, &mut page);
     }
 }
