@@ -30,13 +30,13 @@ pub struct Said {
     pub good: bool,
 }
 
-pub fn good(ink: Ink) -> Said
+fn good(ink: Ink) -> Said
     ensures { λ r. ⌜ r ≡ record { ink = ink; good = true } ⌝ }
 {
     Said { ink, good: true }
 }
 
-pub fn bad(ink: Ink) -> Said
+fn bad(ink: Ink) -> Said
     ensures { λ r. ⌜ r ≡ record { ink = ink; good = false } ⌝ }
 {
     Said { ink, good: false }

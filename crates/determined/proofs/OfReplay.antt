@@ -8,12 +8,8 @@ use Rattle.ink.specs.Ink.{Sheet}
 use Rattle.ink.specs.declared.Ink.{Ink}
 use Rattle.commands.specs.Scenes.{Left, Leaves}
 use Rattle.commands.specs.declared.Said.{Said}
-use Rattle.determined.proofs.Determined.{Determined, Nothing-seen, none-seen}
+use Rattle.determined.proofs.Determined.{Determined}
 use Rattle.determined.proofs.OfInk.{prints-same}
-use Rattle.commands.proofs.good.Reads as good-reads
-use Rattle.commands.proofs.good.Kinds as good-kinds
-use Rattle.commands.proofs.bad.Reads as bad-reads
-use Rattle.commands.proofs.bad.Kinds as bad-kinds
 use Rattle.commands.proofs.fill_run.Reads as fill-run-reads
 use Rattle.commands.proofs.fill_run.Kinds as fill-run-kinds
 use Rattle.commands.proofs.run.Reads as commands-reads
@@ -22,12 +18,6 @@ use Rattle.changes.proofs.run.Reads as changes-reads
 use Rattle.changes.proofs.run.Kinds as changes-kinds
 use Rattle.player.proofs.play.Reads as play-reads
 use Rattle.player.proofs.play.Kinds as play-kinds
-
-pub good-one : Determined _ good-kinds.ps good-kinds.r good-reads.Post Nothing-seen (λ _ _ _. none-seen)
-good-one κs a r₁ r₂ w₁ w₂ p q = (p ∙ sym q, refl)
-
-pub bad-one : Determined _ bad-kinds.ps bad-kinds.r bad-reads.Post Nothing-seen (λ _ _ _. none-seen)
-bad-one κs a r₁ r₂ w₁ w₂ p q = (p ∙ sym q, refl)
 
 pub fill-run-one : Determined _ fill-run-kinds.ps fill-run-kinds.r fill-run-reads.Post Bytes (λ _ _ w. view (w .0))
 fill-run-one κs a r₁ r₂ w₁ w₂ p q = (refl, p ∙ sym q)
