@@ -145,6 +145,7 @@ fn fill(img: &mut [u8], values: &[usize; FIELDS], room: &[u8], buffer: &mut [u8]
     Done::Moved(write(img, values, room, buffer))
 }
 
+// Does a call whose fields are good.
 fn perform(
     call: Call,
     img: &mut [u8],
@@ -211,6 +212,7 @@ fn change(
     requires { ⌜ length (now line) ≤ 4096 ⌝ }
     ensures { λ r. ⌜ Leaves (does call (scene (now (line .entry)) at (now (img .entry)) (now (buffer .entry)))) (sheet ink (now (page .entry))) r (now (img .exit)) (now (buffer .exit)) (now (page .exit)) ⌝ }
 {
+    // The forms of all calls, one call behind the other, as `forms_of` has them.
     let all = *b"THHTBBHHHTTSTBHHHTNHHTNHHDTNHHNB";
     let forms = forms_of(call);
     let start = forms.start;
@@ -224,6 +226,7 @@ fn change(
     say(page, ink, done)
 }
 
+// The call that a line's word names.
 fn word_of(line: &[u8], at: usize) -> Word
     ensures { λ r. ⌜ ((img buffer : List ℕ) → changed (scene (now (line .entry)) at img buffer) ≡ wordDoes r (scene (now (line .entry)) at img buffer)) ⌝ }
 {

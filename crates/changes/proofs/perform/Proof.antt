@@ -3,7 +3,7 @@ use mathlib.Core.Path.{refl}
 use native.Mathlib.Omega.{arith}
 use lib.ListN.{length}
 use Rattle.model.specs.Bytes.{view}
-use Rattle.changes.specs.Acts.{held, acts}
+use Rattle.changes.specs.Acts.{held, formatted, created, destroyed, renamed, informed, ended, written, acts}
 use Rattle.changes.proofs.ChangeLaws.{does-performs, writes-performs, acts-by, fits-by}
 use borrow.Author.Needs.{needs}
 use Rattle.changes.proofs.perform.Statement.{statement}
@@ -91,8 +91,11 @@ returns c =
     let vs = a .values .now in
     let ts = a .room .now in
     let bs = a .buffer .now in
-    acts-by (length (a .img .now)) (view (a .img .now)) (length bs) (held vs ts bs) (c .before .before .before .before .enum-told .given .1)
-    (does-performs (held vs ts bs) bs refl (c .before .before .format .ensures))
+    let n = length (a .img .now) in
+    let v = view (a .img .now) in
+    let f = held vs ts bs in
+    acts-by n v (length bs) f (c .before .before .before .before .enum-told .given .1)
+    (does-performs {o = formatted n v f} f bs refl (c .before .before .format .ensures))
 
 same-length-2 : tie.Need-same-length-2
 same-length-2 c = search needs
@@ -104,8 +107,11 @@ returns-2 c =
     let vs = a .values .now in
     let ts = a .room .now in
     let bs = a .buffer .now in
-    acts-by (length (a .img .now)) (view (a .img .now)) (length bs) (held vs ts bs) (c .before .before .before .before .enum-told2 .given .1)
-    (does-performs (held vs ts bs) bs refl (c .before .before .create .ensures))
+    let n = length (a .img .now) in
+    let v = view (a .img .now) in
+    let f = held vs ts bs in
+    acts-by n v (length bs) f (c .before .before .before .before .enum-told2 .given .1)
+    (does-performs {o = created n v f} f bs refl (c .before .before .create .ensures))
 
 same-length-3 : tie.Need-same-length-3
 same-length-3 c = search needs
@@ -117,8 +123,11 @@ returns-3 c =
     let vs = a .values .now in
     let ts = a .room .now in
     let bs = a .buffer .now in
-    acts-by (length (a .img .now)) (view (a .img .now)) (length bs) (held vs ts bs) (c .before .before .before .before .enum-told3 .given .1)
-    (does-performs (held vs ts bs) bs refl (c .before .before .destroy .ensures))
+    let n = length (a .img .now) in
+    let v = view (a .img .now) in
+    let f = held vs ts bs in
+    acts-by n v (length bs) f (c .before .before .before .before .enum-told3 .given .1)
+    (does-performs {o = destroyed n v f} f bs refl (c .before .before .destroy .ensures))
 
 same-length-4 : tie.Need-same-length-4
 same-length-4 c = search needs
@@ -130,8 +139,11 @@ returns-4 c =
     let vs = a .values .now in
     let ts = a .room .now in
     let bs = a .buffer .now in
-    acts-by (length (a .img .now)) (view (a .img .now)) (length bs) (held vs ts bs) (c .before .before .before .before .enum-told4 .given .1)
-    (does-performs (held vs ts bs) bs refl (c .before .before .rename .ensures))
+    let n = length (a .img .now) in
+    let v = view (a .img .now) in
+    let f = held vs ts bs in
+    acts-by n v (length bs) f (c .before .before .before .before .enum-told4 .given .1)
+    (does-performs {o = renamed n v f} f bs refl (c .before .before .rename .ensures))
 
 same-length-5 : tie.Need-same-length-5
 same-length-5 c = search needs
@@ -143,8 +155,11 @@ returns-5 c =
     let vs = a .values .now in
     let ts = a .room .now in
     let bs = a .buffer .now in
-    acts-by (length (a .img .now)) (view (a .img .now)) (length bs) (held vs ts bs) (c .before .before .before .before .enum-told5 .given .1)
-    (does-performs (held vs ts bs) bs refl (c .before .before .set-info .ensures))
+    let n = length (a .img .now) in
+    let v = view (a .img .now) in
+    let f = held vs ts bs in
+    acts-by n v (length bs) f (c .before .before .before .before .enum-told5 .given .1)
+    (does-performs {o = informed n v f} f bs refl (c .before .before .set-info .ensures))
 
 same-length-6 : tie.Need-same-length-6
 same-length-6 c = search needs
@@ -156,8 +171,11 @@ returns-6 c =
     let vs = a .values .now in
     let ts = a .room .now in
     let bs = a .buffer .now in
-    acts-by (length (a .img .now)) (view (a .img .now)) (length bs) (held vs ts bs) (c .before .before .before .before .enum-told6 .given .1)
-    (does-performs (held vs ts bs) bs refl (c .before .before .set-eof .ensures))
+    let n = length (a .img .now) in
+    let v = view (a .img .now) in
+    let f = held vs ts bs in
+    acts-by n v (length bs) f (c .before .before .before .before .enum-told6 .given .1)
+    (does-performs {o = ended n v f} f bs refl (c .before .before .set-eof .ensures))
 
 same-length-7 : tie.Need-same-length-7
 same-length-7 c = search needs
@@ -172,8 +190,11 @@ returns-7 c =
     let vs = a .values .now in
     let ts = a .room .now in
     let bs = a .buffer .now in
-    acts-by (length (a .img .now)) (view (a .img .now)) (length bs) (held vs ts bs) (c .before .before .before .before .before .enum-told7 .given .1)
-    (writes-performs (view bs) bs refl (c .before .before .write .ensures))
+    let n = length (a .img .now) in
+    let v = view (a .img .now) in
+    let f = held vs ts bs in
+    acts-by n v (length bs) f (c .before .before .before .before .before .enum-told7 .given .1)
+    (writes-performs {o = written n v f (view bs)} (view bs) bs refl (c .before .before .write .ensures))
 
 same-length-9 : tie.Need-same-length-9
 same-length-9 c = search needs

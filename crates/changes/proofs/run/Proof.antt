@@ -9,28 +9,28 @@ use Rattle.changes.proofs.run.Statement.{statement}
 use Rattle.changes.proofs.run.Tie as tie
 
 word-of-requires : tie.Need-word-of-requires
-word-of-requires c κs = search needs
+word-of-requires c κs = tt
 
 enum-known-call : tie.Need-enum-known-call
 enum-known-call c = search needs
 
 change-requires : tie.Need-change-requires
-change-requires c κs = search needs
+change-requires c κs = c .before .before .before .before .before .before .before .before .before .before .before .pre
 
 enum-told : tie.Need-enum-told
 enum-told c = search needs
 
 run-requires : tie.Need-run-requires
-run-requires c κs = search needs
+run-requires c κs = c .before .before .before .before .before .before .before .before .before .before .pre
 
 same-length : tie.Need-same-length
-same-length c = search needs
+same-length c = c .before .before .before .before .before .img .given
 
 same-length-2 : tie.Need-same-length-2
-same-length-2 c = search needs
+same-length-2 c = c .before .before .before .buffer .given
 
 same-length-3 : tie.Need-same-length-3
-same-length-3 c = search needs
+same-length-3 c = c .before .page .given
 
 returns : tie.Need-returns
 unfolding wordDoes
@@ -41,13 +41,13 @@ returns c =
     (c .before .before .before .before .before .before .change .ensures)
 
 same-length-4 : tie.Need-same-length-4
-same-length-4 c = search needs
+same-length-4 c = c .before .before .before .before .before .img2 .given
 
 same-length-5 : tie.Need-same-length-5
-same-length-5 c = search needs
+same-length-5 c = c .before .before .before .buffer2 .given
 
 same-length-6 : tie.Need-same-length-6
-same-length-6 c = search needs
+same-length-6 c = c .before .page2 .given
 
 returns-2 : tie.Need-returns-2
 unfolding wordDoes
