@@ -343,7 +343,7 @@ def not_prodos():
 
 
 def main():
-    folder = os.path.join(HERE, "crates", "catalogs")
+    folder = os.path.join(HERE, "crates", "catalog")
     data = os.path.join(folder, "data")
     os.makedirs(data, exist_ok=True)
     for old in os.listdir(data):

@@ -4,7 +4,7 @@ use std::path::Path;
 
 #[test]
 fn stored_scripts_print_what_is_stored() {
-    let folder = Path::new(env!("CARGO_MANIFEST_DIR")).join("../crates/replays");
+    let folder = Path::new(env!("CARGO_MANIFEST_DIR")).join("../crates/replay");
     let names = std::fs::read_to_string(folder.join("args")).expect("the names");
     let mut rest = std::fs::read_to_string(folder.join("stdout")).expect("what is stored");
     for name in names.lines() {

@@ -1,23 +1,49 @@
-// `replay`: plays the script that comes on standard input.
+// `replay`: plays the script that comes on standard input, or the script in each file named by an argument, under its name (docs/REPLAY.md).
 use libc::STDIN_FILENO;
+use libc::STDOUT_FILENO;
 use player::BUFFER;
 use player::IMAGE;
 use player::PAGE;
 use player::SCRIPT;
 
-fn play_from(text: &mut [u8], image: &mut [u8], buffer: &mut [u8], page: &mut [u8]) {
-    let got = io::read_full(STDIN_FILENO, text);
+fn play_from(file: i32, text: &mut [u8], image: &mut [u8], buffer: &mut [u8], page: &mut [u8]) {
+    let got = io::read_full(file, text);
     player::play(&text[0..got], image, buffer, page);
 }
 
-// The rooms are lent whole, so that nothing is proved about their many bytes one by one.
-fn play_in(
+fn play_file(name: &[u8], text: &mut [u8], image: &mut [u8], buffer: &mut [u8], page: &mut [u8]) {
+    io::write_all(STDOUT_FILENO, name);
+    io::write_all(STDOUT_FILENO, b"\n");
+    let file = os::open_read(name);
+    if file < 0 {
+        os::fail(name);
+        return;
+    }
+    play_from(file, text, image, buffer, page);
+    libc::close(file);
+}
+
+// The file that argument i names. Argument 0 is the program: alone, it reads standard input.
+fn play_argument(
+    i: usize,
+    count: usize,
     text: &mut [u8; SCRIPT],
     image: &mut [u8; IMAGE],
     buffer: &mut [u8; BUFFER],
     page: &mut [u8; PAGE],
 ) {
-    play_from(text, image, buffer, page);
+    if count == 1 {
+        play_from(STDIN_FILENO, text, image, buffer, page);
+        return;
+    }
+    if i == 0 {
+        return;
+    }
+    let mut name = [0u8; 256];
+    let size = os::arg(i, &mut name);
+    if size <= 256 {
+        play_file(&name[0..size], text, image, buffer, page);
+    }
 }
 
 fn main() {
@@ -25,5 +51,8 @@ fn main() {
     let mut image = [0u8; IMAGE];
     let mut buffer = [0u8; BUFFER];
     let mut page = [0u8; PAGE];
-    play_in(&mut text, &mut image, &mut buffer, &mut page);
+    let count = os::arg_count();
+    for i in 0..count {
+        play_argument(i, count, &mut text, &mut image, &mut buffer, &mut page);
+    }
 }

@@ -1,15 +1,15 @@
--- `printer::print_catalog` meets its contract.
+-- `catalog::print_catalog` meets its contract.
 use Prim.Native.Nat.{_*_, _-_, _≤_}
 use mathlib.Core.Path.{_≡_}
 use lib.ListN.{length}
 use native.Mathlib.Omega.{arith}
 use borrow.Author.Needs.{needs}
-use Rattle.printer.proofs.print_catalog.Statement.{statement}
-use Rattle.printer.proofs.print_catalog.Tie as tie
-use Rattle.printer.proofs.print_catalog.Reads as reads
-use Rattle.printer.proofs.print_catalog.Lts as lts
+use Rattle.catalog.proofs.print_catalog.Statement.{statement}
+use Rattle.catalog.proofs.print_catalog.Tie as tie
+use Rattle.catalog.proofs.print_catalog.Reads as reads
+use Rattle.catalog.proofs.print_catalog.Lts as lts
 use Rattle.io.proofs.large_buffer.Reads as large-buffer-reads
-use Rattle.printer.proofs.print_page.Reads as print-page-reads
+use Rattle.catalog.proofs.print_page.Reads as print-page-reads
 
 abbrev Inv-loop : tie.InvT-loop
 Inv-loop img page₀ offset₀ counter₀ page offset counter = (length page ≡ 65536) × (offset ≤ counter * 65536) × (counter ≤ 64)

@@ -1,18 +1,18 @@
--- `replays::main` is safe and ends. Nothing has to hold from turn to turn.
+-- `replay::main` is safe and ends. Nothing has to hold from turn to turn.
 use Prim.Native.Nat.{_-_}
 use borrow.Author.Needs.{needs}
-use Rattle.replays.proofs.main.Statement.{statement}
-use Rattle.replays.proofs.main.Tie as tie
-use Rattle.replays.proofs.main.Reads as reads
-use Rattle.replays.proofs.main.Lts as lts
+use Rattle.replay.proofs.main.Statement.{statement}
+use Rattle.replay.proofs.main.Tie as tie
+use Rattle.replay.proofs.main.Reads as reads
+use Rattle.replay.proofs.main.Lts as lts
 use Rattle.os.proofs.arg_count.Reads as arg-count-reads
-use Rattle.replays.proofs.play_argument.Reads as play-argument-reads
+use Rattle.replay.proofs.play_argument.Reads as play-argument-reads
 
 abbrev Inv-loop : tie.InvT-loop
-Inv-loop text₀ room₀ buffer₀ page₀ count i₀ text room buffer page i = Unit {0}
+Inv-loop text₀ image₀ buffer₀ page₀ count i₀ text image buffer page i = Unit {0}
 
 abbrev μ-loop : tie.MeasureT-loop
-μ-loop text₀ room₀ buffer₀ page₀ count i₀ text room buffer page i = count - i
+μ-loop text₀ image₀ buffer₀ page₀ count i₀ text image buffer page i = count - i
 
 arg-count-requires : tie.Need-arg-count-requires Inv-loop μ-loop
 arg-count-requires c κs = search needs

@@ -1,14 +1,14 @@
--- `catalogs::main` meets its contract.
+-- `catalog::main` meets its contract.
 use Prim.Native.Nat.{_-_, _≤_}
 use mathlib.Core.Path.{_≡_}
 use lib.ListN.{length}
 use native.Mathlib.Omega.{arith}
 use borrow.Author.Needs.{needs}
-use Rattle.catalogs.proofs.main.Statement.{statement}
-use Rattle.catalogs.proofs.main.Tie as tie
-use Rattle.catalogs.proofs.main.Reads as reads
-use Rattle.catalogs.proofs.main.Lts as lts
-use Rattle.catalogs.proofs.list_argument.Reads as list-argument-reads
+use Rattle.catalog.proofs.main.Statement.{statement}
+use Rattle.catalog.proofs.main.Tie as tie
+use Rattle.catalog.proofs.main.Reads as reads
+use Rattle.catalog.proofs.main.Lts as lts
+use Rattle.catalog.proofs.list_argument.Reads as list-argument-reads
 use Rattle.os.proofs.arg_count.Reads as arg-count-reads
 
 abbrev Inv-loop : tie.InvT-loop
