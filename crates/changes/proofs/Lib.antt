@@ -1,2 +1,2 @@
--- The laws of changes: what a line that is a call leaves.
+-- The laws of changes: what a command leaves that changes the image.
 pub mod ChangeLaws

@@ -1,3 +1,2 @@
--- The definitions of changes: what a call that changes the volume does as a command of a script.
+-- The definitions of changes: what the commands do that change the image.
 pub mod Changes
-pub mod Acts

@@ -1,51 +1,25 @@
-// The commands of a script that are calls that change the volume. All fields of a line are read before the call; any other word goes on to `commands`.
+// The commands of a script that change the image: the calls that change the volume, and raw bytes. Their fields have been read.
 ghost use mathlib.Core.Path.{_≡_};
-ghost use mathlib.Core.List.{List, []};
-ghost use Prim.Native.Nat.{ℕ, _+_, _-_, _≤_, _<_};
-ghost use lib.ListN.{length, take, drop};
-ghost use Rattle.model.specs.Bytes.{view};
-ghost use Rattle.model.specs.Answers.{Does, Writes};
+ghost use mathlib.Core.List.{List, [], _∷_};
+ghost use Prim.Native.Nat.{ℕ, _+_, _≤_, _<_};
+ghost use lib.ListN.{length};
+ghost use Rattle.model.specs.Bytes.{view, same};
+ghost use Rattle.model.specs.Answers.{Does, Writes, answerNumber, transferNumber, transferred};
 ghost use Rattle.ink.specs.Ink.{sheet};
-ghost use Rattle.commands.specs.Scenes.{scene, Leaves};
-ghost use Rattle.changes.specs.Changes.{changed};
-ghost use Rattle.changes.specs.Acts.{held, formsOf, allForms, Fitting, formatted, created, destroyed, renamed, informed, ended, written, filled, acts, does, wordDoes, Performs, Says};
-use commands::Said;
+ghost use Rattle.replies.specs.Lines.{okLine, reply, number};
+ghost use Rattle.lines.specs.declared.Change.the-variants as change;
+ghost use Rattle.lines.specs.declared.Command.the-variants as command;
+ghost use Rattle.lines.specs.Commands.{Fitting, held};
+ghost use Rattle.lines.specs.Left.{Leaves};
+ghost use Rattle.changes.specs.Changes.{formatted, created, destroyed, renamed, informed, ended, called, written, filled, laidIn, changed, Told};
 use ink::Ink;
+use lines::Call;
+use lines::Change;
+use lines::Said;
 use model::Answer;
 use model::Stamp;
 use model::Transfer;
 use script::FIELDS;
-use script::ROOM;
-
-enum Call {
-    Format,
-    Create,
-    Destroy,
-    Rename,
-    SetInfo,
-    SetEof,
-    Write,
-    Fill,
-}
-
-// What a line's word asks for.
-enum Word {
-    Call(Call),
-    Other,
-}
-
-// What came of a call. A line that asks to fill more than the buffer holds is bad.
-enum Done {
-    Answered(Answer),
-    Moved(Transfer),
-    Bad,
-}
-
-// Where the forms of a call's fields stand among those of all calls.
-struct Forms {
-    start: usize,
-    end: usize,
-}
 
 // The stamp of two fields.
 fn stamp_of(values: &[usize; FIELDS], i: usize) -> Stamp
@@ -131,145 +105,107 @@ fn write(img: &mut [u8], values: &[usize; FIELDS], room: &[u8], buffer: &[u8]) -
     write::write(img, &room[0..size], position, &buffer[0..count], stamp)
 }
 
-// The same, with equal bytes.
-fn fill(img: &mut [u8], values: &[usize; FIELDS], room: &[u8], buffer: &mut [u8]) -> Done
-    requires { ⌜ (length (now room) ≡ 256) × (view (now values) 0 ≤ 128) × (view (now values) 2 ≤ 65535) × (view (now values) 3 ≤ 65535) × (view (now values) 5 ≤ 255) ⌝ }
-    ensures { λ r. ⌜ Performs (filled (length (now (img .entry))) (view (now (img .entry))) (length (now (buffer .entry))) (held (now (values .entry)) (now (room .entry)) (now (buffer .entry)))) r (now (img .exit)) (now (buffer .exit)) ⌝ }
+fn call(call: Call, img: &mut [u8], values: &[usize; FIELDS], room: &[u8]) -> Answer
+    requires { ⌜ (length (now room) ≡ 256) × ((m : ℕ) × Fitting (command.Change (change.Call call)) m (now values)) ⌝ }
+    ensures { λ r. ⌜ ((bs : List ℕ) → Does (called call (length (now (img .entry))) (view (now (img .entry))) (held (now (values .entry)) (now (room .entry)) bs)) (length (now (img .entry))) r (now (img .exit))) ⌝ }
 {
-    let count = values[4];
-    if buffer.len() < count {
-        return Done::Bad;
+    match call {
+        Call::Format => format(img, values, room),
+        Call::Create => create(img, values, room),
+        Call::Destroy => destroy(img, values, room),
+        Call::Rename => rename(img, values, room),
+        Call::SetInfo => set_info(img, values, room),
+        Call::SetEof => set_eof(img, values, room),
     }
-    let byte = values[5] as u8;
-    commands::fill_run(buffer, 0, count, byte);
-    Done::Moved(write(img, values, room, buffer))
 }
 
-// Does a call whose fields are good.
-fn perform(
-    call: Call,
+// What a call answered, said on the page.
+fn say_answer(page: &mut [u8], ink: Ink, answer: Answer) -> Said
+    ensures { λ r. ⌜ Told (reply (answerNumber answer) (okLine [] [])) (sheet ink (now (page .entry))) r (now (page .exit)) ⌝ }
+{
+    Said {
+        ink: replies::say_answer(page, ink, answer),
+        good: true,
+    }
+}
+
+fn say_transfer(page: &mut [u8], ink: Ink, transfer: Transfer) -> Said
+    ensures { λ r. ⌜ Told (reply (transferNumber transfer) (okLine (number ∷ []) (transferred transfer ∷ []))) (sheet ink (now (page .entry))) r (now (page .exit)) ⌝ }
+{
+    Said {
+        ink: replies::say_transfer(page, ink, transfer),
+        good: true,
+    }
+}
+
+// The call write with equal bytes; a line that asks for more than the buffer holds is bad.
+fn fill(
     img: &mut [u8],
     values: &[usize; FIELDS],
     room: &[u8],
     buffer: &mut [u8],
-) -> Done
-    requires { ⌜ (Fitting call (length (now buffer)) (now values)) × (length (now room) ≡ 256) ⌝ }
-    ensures { λ r. ⌜ Performs (acts call (length (now (img .entry))) (view (now (img .entry))) (length (now (buffer .entry))) (held (now (values .entry)) (now (room .entry)) (now (buffer .entry)))) r (now (img .exit)) (now (buffer .exit)) ⌝ }
-{
-    match call {
-        Call::Format => Done::Answered(format(img, values, room)),
-        Call::Create => Done::Answered(create(img, values, room)),
-        Call::Destroy => Done::Answered(destroy(img, values, room)),
-        Call::Rename => Done::Answered(rename(img, values, room)),
-        Call::SetInfo => Done::Answered(set_info(img, values, room)),
-        Call::SetEof => Done::Answered(set_eof(img, values, room)),
-        Call::Write => Done::Moved(write(img, values, room, buffer)),
-        Call::Fill => fill(img, values, room, buffer),
-    }
-}
-
-fn say(page: &mut [u8], ink: Ink, done: Done) -> Said
-    ensures { λ r. ⌜ Says done (sheet ink (now (page .entry))) r (now (page .exit)) ⌝ }
-{
-    match done {
-        Done::Answered(answer) => Said {
-            ink: replies::say_answer(page, ink, answer),
-            good: true,
-        },
-        Done::Moved(transfer) => Said {
-            ink: replies::say_transfer(page, ink, transfer),
-            good: true,
-        },
-        Done::Bad => Said { ink, good: false },
-    }
-}
-
-fn forms_of(call: Call) -> Forms
-    ensures { λ r. ⌜ (r .start ≤ r .end) × (r .end ≤ r .start + 8) × (r .end ≤ length allForms) × (take (r .end - r .start) (drop (r .start) allForms) ≡ formsOf call) ⌝ }
-{
-    match call {
-        Call::Format => Forms { start: 0, end: 3 },
-        Call::Create => Forms { start: 3, end: 9 },
-        Call::Destroy => Forms { start: 9, end: 10 },
-        Call::Rename => Forms { start: 10, end: 12 },
-        Call::SetInfo => Forms { start: 12, end: 17 },
-        Call::SetEof => Forms { start: 17, end: 21 },
-        Call::Write => Forms { start: 21, end: 26 },
-        Call::Fill => Forms { start: 26, end: 32 },
-    }
-}
-
-// "Every field is checked before anything is done."
-fn change(
-    call: Call,
-    line: &[u8],
-    at: usize,
-    img: &mut [u8],
-    buffer: &mut [u8],
     page: &mut [u8],
     ink: Ink,
 ) -> Said
-    requires { ⌜ length (now line) ≤ 4096 ⌝ }
-    ensures { λ r. ⌜ Leaves (does call (scene (now (line .entry)) at (now (img .entry)) (now (buffer .entry)))) (sheet ink (now (page .entry))) r (now (img .exit)) (now (buffer .exit)) (now (page .exit)) ⌝ }
+    requires { ⌜ (length (now room) ≡ 256) × (view (now values) 0 ≤ 128) × (view (now values) 2 ≤ 65535) × (view (now values) 3 ≤ 65535) × (view (now values) 5 ≤ 255) ⌝ }
+    ensures { λ r. ⌜ Leaves (filled (length (now (img .entry))) (view (now (img .entry))) (length (now (buffer .entry))) (held (now (values .entry)) (now (room .entry)) (now (buffer .entry)))) (sheet ink (now (page .entry))) r (now (img .exit)) (now (buffer .exit)) (now (page .exit)) ⌝ }
 {
-    // The forms of all calls, one call behind the other, as `forms_of` has them.
-    let all = *b"THHTBBHHHTTSTBHHHTNHHTNHHDTNHHNB";
-    let forms = forms_of(call);
-    let start = forms.start;
-    let end = forms.end;
-    let mut values = [0usize; FIELDS];
-    let mut room = [0u8; ROOM];
-    if !script::read_fields(line, at, &all[start..end], &mut values, &mut room, buffer) {
+    let count = values[4];
+    if buffer.len() < count {
         return Said { ink, good: false };
     }
-    let done = perform(call, img, &values, &room, buffer);
-    say(page, ink, done)
+    let byte = values[5] as u8;
+    store::fill_run(buffer, 0, count, byte);
+    let transfer = write(img, values, room, buffer);
+    say_transfer(page, ink, transfer)
 }
 
-// The call that a line's word names.
-fn word_of(line: &[u8], at: usize) -> Word
-    ensures { λ r. ⌜ ((img buffer : List ℕ) → changed (scene (now (line .entry)) at img buffer) ≡ wordDoes r (scene (now (line .entry)) at img buffer)) ⌝ }
+// Bytes of the buffer, at an address of the image; a line that leaves the image is bad.
+fn set(img: &mut [u8], values: &[usize; FIELDS], buffer: &[u8], page: &mut [u8], ink: Ink) -> Said
+    requires { ⌜ (view (now values) 0 ≤ 4294967295) × (view (now values) 1 ≤ length (now buffer)) ⌝ }
+    ensures { λ r. ⌜ Leaves (laidIn (length (now (img .entry))) (view (now (img .entry))) (held (now (values .entry)) [] (now (buffer .entry))) (view (now (buffer .entry)))) (sheet ink (now (page .entry))) r (now (img .exit)) (now (buffer .exit)) (now (page .exit)) ⌝ }
 {
-    if script::is_word(line, at, b"format") {
-        return Word::Call(Call::Format);
+    let address = values[0];
+    let count = values[1];
+    if img.len() < address + count {
+        return Said { ink, good: false };
     }
-    if script::is_word(line, at, b"create") {
-        return Word::Call(Call::Create);
-    }
-    if script::is_word(line, at, b"destroy") {
-        return Word::Call(Call::Destroy);
-    }
-    if script::is_word(line, at, b"rename") {
-        return Word::Call(Call::Rename);
-    }
-    if script::is_word(line, at, b"setinfo") {
-        return Word::Call(Call::SetInfo);
-    }
-    if script::is_word(line, at, b"write") {
-        return Word::Call(Call::Write);
-    }
-    if script::is_word(line, at, b"fill") {
-        return Word::Call(Call::Fill);
-    }
-    if script::is_word(line, at, b"seteof") {
-        return Word::Call(Call::SetEof);
-    }
-    Word::Other
+    store::copy_run(img, address, buffer, 0, count);
+    say_answer(page, ink, Answer::Done)
 }
 
+// Equal bytes there.
+fn set_run(img: &mut [u8], values: &[usize; FIELDS], page: &mut [u8], ink: Ink) -> Said
+    requires { ⌜ (view (now values) 0 ≤ 4294967295) × (view (now values) 1 ≤ 4294967295) × (view (now values) 2 ≤ 255) ⌝ }
+    ensures { λ r. ⌜ ((bs : List ℕ) → Leaves (laidIn (length (now (img .entry))) (view (now (img .entry))) (held (now (values .entry)) [] bs) (same (view (now (values .entry)) 2))) (sheet ink (now (page .entry))) r (now (img .exit)) bs (now (page .exit))) ⌝ }
+{
+    let address = values[0];
+    let count = values[1];
+    if img.len() < address + count {
+        return Said { ink, good: false };
+    }
+    store::fill_run(img, address, count, values[2] as u8);
+    say_answer(page, ink, Answer::Done)
+}
+
+// A command whose fields are good.
 pub fn run(
-    line: &[u8],
-    at: usize,
+    change: Change,
     img: &mut [u8],
+    values: &[usize; FIELDS],
+    room: &[u8],
     buffer: &mut [u8],
     page: &mut [u8],
     ink: Ink,
 ) -> Said
-    requires { ⌜ length (now line) ≤ 4096 ⌝ }
-    ensures { λ r. ⌜ Leaves (changed (scene (now (line .entry)) at (now (img .entry)) (now (buffer .entry)))) (sheet ink (now (page .entry))) r (now (img .exit)) (now (buffer .exit)) (now (page .exit)) ⌝ }
+    requires { ⌜ (Fitting (command.Change change) (length (now buffer)) (now values)) × (length (now room) ≡ 256) ⌝ }
+    ensures { λ r. ⌜ Leaves (changed change (length (now (img .entry))) (view (now (img .entry))) (length (now (buffer .entry))) (held (now (values .entry)) (now (room .entry)) (now (buffer .entry)))) (sheet ink (now (page .entry))) r (now (img .exit)) (now (buffer .exit)) (now (page .exit)) ⌝ }
 {
-    match word_of(line, at) {
-        Word::Call(call) => change(call, line, at, img, buffer, page, ink),
-        Word::Other => commands::run(line, at, img, buffer, page, ink),
+    match change {
+        Change::Call(asked) => say_answer(page, ink, call(asked, img, values, room)),
+        Change::Write => say_transfer(page, ink, write(img, values, room, buffer)),
+        Change::Fill => fill(img, values, room, buffer, page, ink),
+        Change::Set => set(img, values, buffer, page, ink),
+        Change::SetRun => set_run(img, values, page, ink),
     }
 }

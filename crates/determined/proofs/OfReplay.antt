@@ -6,21 +6,16 @@ use mathlib.Core.Bool.{Bool}
 use Rattle.model.specs.Bytes.{Bytes, view}
 use Rattle.ink.specs.Ink.{Sheet}
 use Rattle.ink.specs.declared.Ink.{Ink}
-use Rattle.commands.specs.Scenes.{Left, Leaves}
-use Rattle.commands.specs.declared.Said.{Said}
+use Rattle.lines.specs.Left.{Left, Leaves}
+use Rattle.lines.specs.declared.Said.{Said}
 use Rattle.determined.proofs.Determined.{Determined}
 use Rattle.determined.proofs.OfInk.{prints-same}
-use Rattle.commands.proofs.fill_run.Reads as fill-run-reads
-use Rattle.commands.proofs.fill_run.Kinds as fill-run-kinds
-use Rattle.commands.proofs.run.Reads as commands-reads
-use Rattle.commands.proofs.run.Kinds as commands-kinds
+use Rattle.looks.proofs.run.Reads as looks-reads
+use Rattle.looks.proofs.run.Kinds as looks-kinds
 use Rattle.changes.proofs.run.Reads as changes-reads
 use Rattle.changes.proofs.run.Kinds as changes-kinds
 use Rattle.player.proofs.play.Reads as play-reads
 use Rattle.player.proofs.play.Kinds as play-kinds
-
-pub fill-run-one : Determined _ fill-run-kinds.ps fill-run-kinds.r fill-run-reads.Post Bytes (λ _ _ w. view (w .0))
-fill-run-one κs a r₁ r₂ w₁ w₂ p q = (refl, p ∙ sym q)
 
 -- image, buffer and page
 pub record Rooms : Type 0 where
@@ -46,15 +41,16 @@ leaves-same o s r₁ r₂ i₁ b₁ p₁ i₂ b₂ p₂ l m =
     said-same : (r₁ r₂ : Said) → r₁ .ink ≡ r₂ .ink → r₁ .good ≡ r₂ .good → r₁ ≡ r₂
     said-same r₁ r₂ p q = ap (λ i. said i (r₁ .good)) p ∙ ap (said (r₂ .ink)) q
 
-pub commands-one : Determined _ commands-kinds.ps commands-kinds.r commands-reads.Post Rooms
-    (λ _ _ w. rooms (view (w .1 .1 .0)) (view (w .1 .1 .1 .0)) (view (w .1 .1 .1 .1 .0)))
-commands-one κs a r₁ r₂ w₁ w₂ p q =
-    leaves-same _ _ r₁ r₂ (w₁ .1 .1 .0) (w₁ .1 .1 .1 .0) (w₁ .1 .1 .1 .1 .0) (w₂ .1 .1 .0) (w₂ .1 .1 .1 .0) (w₂ .1 .1 .1 .1 .0) p q
+-- the image is lent to be read
+pub looks-one : Determined _ looks-kinds.ps looks-kinds.r looks-reads.Post Rooms
+    (λ _ a w. rooms (view (a .1 .0 .now)) (view (w .1 .1 .1 .1 .0)) (view (w .1 .1 .1 .1 .1 .0)))
+looks-one κs a r₁ r₂ w₁ w₂ p q =
+    leaves-same _ _ r₁ r₂ (a .1 .0 .now) (w₁ .1 .1 .1 .1 .0) (w₁ .1 .1 .1 .1 .1 .0) (a .1 .0 .now) (w₂ .1 .1 .1 .1 .0) (w₂ .1 .1 .1 .1 .1 .0) p q
 
 pub changes-one : Determined _ changes-kinds.ps changes-kinds.r changes-reads.Post Rooms
-    (λ _ _ w. rooms (view (w .1 .1 .0)) (view (w .1 .1 .1 .0)) (view (w .1 .1 .1 .1 .0)))
+    (λ _ _ w. rooms (view (w .1 .0)) (view (w .1 .1 .1 .1 .0)) (view (w .1 .1 .1 .1 .1 .0)))
 changes-one κs a r₁ r₂ w₁ w₂ p q =
-    leaves-same _ _ r₁ r₂ (w₁ .1 .1 .0) (w₁ .1 .1 .1 .0) (w₁ .1 .1 .1 .1 .0) (w₂ .1 .1 .0) (w₂ .1 .1 .1 .0) (w₂ .1 .1 .1 .1 .0) p q
+    leaves-same _ _ r₁ r₂ (w₁ .1 .0) (w₁ .1 .1 .1 .1 .0) (w₁ .1 .1 .1 .1 .1 .0) (w₂ .1 .0) (w₂ .1 .1 .1 .1 .0) (w₂ .1 .1 .1 .1 .1 .0) p q
 
 pub play-one : Determined _ play-kinds.ps play-kinds.r play-reads.Post Rooms (λ _ _ w. rooms (view (w .1 .0)) (view (w .1 .1 .0)) (view (w .1 .1 .1 .0)))
 play-one κs a r₁ r₂ w₁ w₂ p q = (refl, rooms-same (p .image ∙ sym (q .image)) (p .buffer ∙ sym (q .buffer)) (p .page ∙ sym (q .page)))

@@ -26,6 +26,8 @@ use Rattle.store.proofs.copy_run.Reads as copy-run-reads
 use Rattle.store.proofs.copy_run.Kinds as copy-run-kinds
 use Rattle.store.proofs.place_of.Reads as place-of-reads
 use Rattle.store.proofs.place_of.Kinds as place-of-kinds
+use Rattle.store.proofs.fill_run.Reads as fill-run-reads
+use Rattle.store.proofs.fill_run.Kinds as fill-run-kinds
 use Rattle.store.proofs.clear_run.Reads as clear-run-reads
 use Rattle.store.proofs.clear_run.Kinds as clear-run-kinds
 
@@ -64,6 +66,9 @@ copy-run-one κs a r₁ r₂ w₁ w₂ p q = (refl, p ∙ sym q)
 
 pub place-of-one : Determined _ place-of-kinds.ps place-of-kinds.r place-of-reads.Post Nothing-seen (λ _ _ _. none-seen)
 place-of-one κs a r₁ r₂ w₁ w₂ p q = (p .0 ∙ sym (q .0), refl)
+
+pub fill-run-one : Determined _ fill-run-kinds.ps fill-run-kinds.r fill-run-reads.Post Bytes (λ _ _ w. view (w .0))
+fill-run-one κs a r₁ r₂ w₁ w₂ p q = (refl, p ∙ sym q)
 
 pub clear-run-one : Determined _ clear-run-kinds.ps clear-run-kinds.r clear-run-reads.Post Bytes (λ _ _ w. view (w .0))
 clear-run-one κs a r₁ r₂ w₁ w₂ p q = (refl, p ∙ sym q)

@@ -29,8 +29,12 @@ paste f a k g = λ i. elim (leb a i) [ true ↦ elim (ltb i (a + k)) [ true ↦ 
 abbrev pub from : Bytes → ℕ → Bytes
 from f a = λ i. f (a + i)
 
+-- one byte everywhere
+abbrev pub same : ℕ → Bytes
+same x = λ _. x
+
 abbrev pub zeros : Bytes
-zeros = λ _. 0
+zeros = same 0
 
 unfoldable pub clear : Bytes → ℕ → ℕ → Bytes
 clear f a k = paste f a k zeros

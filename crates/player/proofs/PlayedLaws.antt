@@ -1,41 +1,29 @@
 -- What the tests and the calls of player's functions say of its definitions. Assumes nothing.
-use Prim.Native.Nat.{ℕ, zero, suc, _+_, _-_, _*_, _≤_, _<_}
-use mathlib.Core.Path.{_≡_, refl, sym, ap, _∙_, fun-ext}
-use mathlib.Core.List.{List, [], _∷_, _++_}
+use Prim.Native.Nat.{ℕ, suc, _+_, _-_, _≤_, _<_}
+use mathlib.Core.Path.{_≡_, refl, sym, ap, subst, _∙_}
+use mathlib.Core.List.{List, [], _++_}
 use mathlib.Core.Bool.{Bool, true, false}
 use native.Mathlib.Omega.{arith}
-use lib.Dec.{eqb}
-use lib.ListN.{length, getD, replicate, take, drop, List·getD-eq-default}
+use lib.Dec.{eqb, leb}
+use lib.ListN.{length, replicate, take, drop}
 use borrow.Author.Tests.{le-leb, lt-leb, lt-ltb, le-ltb, eq-eqb, ne-eqb}
-use Rattle.model.specs.Bytes.{Bytes, view, paste, from, zeros, clear, _and_, _or_}
-use Rattle.model.specs.Catalog.{newline, space′}
-use Rattle.model.proofs.ByteLaws.{paste-by, view-read, length-part, view-part}
+use Rattle.model.specs.Bytes.{Bytes, view, paste, zeros, clear, _and_, _or_}
+use Rattle.model.specs.Catalog.{newline}
+use Rattle.model.proofs.ByteLaws.{length-part, part-self}
 use Rattle.ink.specs.Ink.{Sheet, sheet, Prints}
 use Rattle.ink.specs.declared.Ink.{Ink}
 use Rattle.ink.proofs.InkLaws.{_then_}
-use Rattle.script.specs.Fields.{endAt, isWord, readFields, Takes}
+use Rattle.script.specs.Fields.{Fields, endAt, Takes}
 use Rattle.replies.specs.Lines.{okLine, badLine}
-use Rattle.commands.specs.Scenes.{scene, asked, cut}
-use Rattle.commands.specs.Scenes as scenes
-use Rattle.commands.specs.declared.Said.{Said}
-use Rattle.changes.specs.Changes.{changed}
-use Rattle.player.specs.Played.{Rooms, Stage, After, sceneOf, refused, renewed, onImage, commanded, isSilent, ready, printed, pageOf, played, playedFrom, playedAll, staged, rooms, Holds, stage, Leaves}
+use Rattle.lines.specs.declared.Command.{Command}
+use Rattle.lines.specs.declared.Command.the-variants as command
+use Rattle.lines.specs.declared.Said.{Said}
+use Rattle.lines.specs.Commands.{commandOf, asked, held, unplaced, cut}
+use Rattle.lines.specs.Left.{Left}
+use Rattle.lines.specs.Left as left
+use Rattle.lines.proofs.PartLaws.{view-cut, view-zeros, part-as, front-back}
+use Rattle.player.specs.Played.{Rooms, Stage, After, refused, renewed, onImage, obeyed, answered, commanded, isSilent, ready, printed, pageOf, played, playedFrom, playedAll, staged, rooms, Holds, stage, Leaves, Renews}
 use Rattle.player.specs.declared.After.{After as Told}
-
--- A part of a list, and a list of zeros.
-pub view-cut : (xs : List ℕ) (a k : ℕ) → a + k ≤ length xs → view (take k (drop a xs)) ≡ cut (view xs) a k
-view-cut xs a k h =
-    paste-by (view (take k (drop a xs))) zeros 0 k (from (view xs) a)
-    (λ i l. let e : 0 + i ≡ i = omega arith in rw e (view-read xs a k i l))
-    (λ i n. List·getD-eq-default (take k (drop a xs)) 0 (omega (arith, length-part xs a k h, n (omega arith))))
-
-view-zeros : (m : ℕ) → view (replicate {A = ℕ} m 0) ≡ zeros
-view-zeros m = fun-ext (go m)
-  where
-    go : (m i : ℕ) → getD {A = ℕ} (replicate m 0) i 0 ≡ 0
-    go zero i = refl
-    go (suc m) zero = refl
-    go (suc m) (suc i) = go m i
 
 -- A line that prints nothing.
 module _ (s : Bytes) (n : ℕ) where
@@ -64,85 +52,86 @@ ready-empty used h = rw (lt-leb used 61440 h, ready)
 pub leaves-as : {o u : After} {s : Sheet} {r : Told} {i b p : List ℕ} → o ≡ u → Leaves u s r i b p → Leaves o s r i b p
 leaves-as e l = rw e l
 
--- The fields that were read, into values and a room of zeros, are those of the scene.
-pub takes-asked : (r : Rooms) (s : Bytes) (n : ℕ) (t : Stage) (at : ℕ) (good : Bool) (vs texts b : List ℕ) → at ≡ endAt s n space′ 0
-    → Takes (readFields s n (r .buffer) (view (78 ∷ [])) 0 1
-    (record { at = at; values = view (replicate {A = ℕ} 8 0); room = view (replicate {A = ℕ} 256 0); buffer = t .buffer })) n good vs texts b
-    → Takes (asked (sceneOf r s n t) (78 ∷ [])) n good vs texts b
-takes-asked r s n t at good vs texts b e k =
-    rw e at (rw (view-zeros 256) at (rw (view-zeros 8) at k))
+-- A new image, as it was asked for.
+pub renewed-leaves : (image buffer page : List ℕ) (wanted size used : ℕ) {s : Sheet} {r : Told} {i p : List ℕ} → Renews (length image) wanted size (view image) s r i p
+    → Leaves (renewed (rooms image buffer page) wanted (stage size used image buffer page) (view buffer)) s r i buffer p
+unfolding renewed
+renewed-leaves image buffer page wanted size used {s} {r} {i} {p} h = go (leb wanted (length image)) (h .size) (h .good) (h .image) (h .page)
+  where
+    go : (b : Bool) → r .size ≡ elim b [ true ↦ wanted | false ↦ size ] → r .good ≡ b → view i ≡ elim b [ true ↦ clear (view image) 0 wanted | false ↦ view image ]
+        → Prints (elim b [ true ↦ okLine [] [] | false ↦ [] ]) s (sheet (r .ink) p)
+        → Leaves (elim b [
+          | true ↦ record { size = wanted; image = clear (view image) 0 wanted; buffer = view buffer; good = true; text = okLine [] [] }
+          | false ↦ refused (stage size used image buffer page) (view buffer)
+        ]) s r i buffer p
+    go true e g f k = record { size = e; good = g; image = f; buffer = refl; page = k }
+    go false e g f k = record { size = e; good = g; image = f; buffer = refl; page = k }
 
--- A new image: a bad line, one that is too large, and one that is made.
-module _ (r : Rooms) (s : Bytes) (n unit : ℕ) (t : Stage) (good : Bool) (vs texts b : List ℕ) (k : Takes (asked (sceneOf r s n t) (78 ∷ [])) n good vs texts b) where
-  ends : (g : Bool) → good ≡ g → eqb (asked (sceneOf r s n t) (78 ∷ []) .at) n ≡ g
-  ends g h = sym (k .good) ∙ h
+-- A command on the image, which is lent as the first bytes of its room: what it does goes by the image's length and bytes, and ys come back for them.
+module _ (image : List ℕ) (size : ℕ) (fits : size ≤ length image) where
+  pub on-image : (does : ℕ → Bytes → Left) (used : ℕ) (buffer page ys : List ℕ) {s : Sheet} {r : Said} {i b p : List ℕ} → view i ≡ paste (view image) 0 size (view ys)
+      → left.Leaves (does (length (take (size - 0) (drop 0 image))) (view (take (size - 0) (drop 0 image)))) s r ys b p
+      → Leaves (onImage (stage size used image buffer page) (does size (cut (view image) 0 size))) s (record { size = size; ink = r .ink; good = r .good }) i b p
+  on-image does used buffer page ys {s} {r} {i} {b} {p} e l =
+      let m = part-as (λ v n. left.Leaves (does n v) s r ys b p) image 0 size size (omega arith) fits l in
+      record { size = refl; good = m .good; image = e ∙ ap (paste (view image) 0 size) (m .image); buffer = m .buffer; page = m .page }
 
-  first : asked (sceneOf r s n t) (78 ∷ []) .values 0 ≡ getD vs 0 0
-  first = sym (ap (λ f. f 0) (k .values))
+  -- what only looks gives the same bytes back
+  pub looked-back : view image ≡ paste (view image) 0 size (view (take (size - 0) (drop 0 image)))
+  looked-back = let d : size - 0 ≡ size = omega arith in rw d (sym (part-self image 0 size))
 
-  pub renewed-bad : good ≡ false → renewed r s n unit t ≡ refused t (view b)
-  unfolding renewed _and_
-  renewed-bad h = rw (ends false h, renewed, _and_) (ap (refused t) (sym (k .buffer)))
+  pub changed-back : (ys : List ℕ) → length ys ≡ length (take (size - 0) (drop 0 image)) → view (ys ++ drop (size - 0) (drop 0 image)) ≡ paste (view image) 0 size (view ys)
+  changed-back ys e = let d : size - 0 ≡ size = omega arith in front-back image ys size fits (e ∙ length-part image 0 (size - 0) (omega arith) ∙ d)
 
-  pub renewed-large : good ≡ true → r .image < getD vs 0 0 * unit → renewed r s n unit t ≡ refused t (view b)
-  unfolding renewed _and_
-  renewed-large h l = rw (ends true h, first, lt-leb (getD vs 0 0 * unit) (r .image) l, renewed, _and_) (ap (refused t) (sym (k .buffer)))
+-- A command by its name.
+pub obeyed-by : (r : Rooms) (t : Stage) (f : Fields) {k j : Command} {s : Sheet} {told : Told} {i b p : List ℕ} → k ≡ j → Leaves (obeyed r j t f) s told i b p
+    → Leaves (obeyed r k t f) s told i b p
+obeyed-by r t f e l = leaves-as (ap (λ k. obeyed r k t f) e) l
 
-  pub renewed-done : good ≡ true → getD vs 0 0 * unit ≤ r .image
-      → renewed r s n unit t
-      ≡ record { size = getD vs 0 0 * unit; image = clear (t .image) 0 (getD vs 0 0 * unit); buffer = view b; good = true; text = okLine [] [] }
-  unfolding renewed _and_
-  renewed-done h l = rw (ends true h, first, le-leb (getD vs 0 0 * unit) (r .image) l, renewed, _and_, first, k .buffer)
+-- What a stage says of the buffer and the page says nothing to a command with its fields.
+obeyed-same : (r : Rooms) (k : Command) (f : Fields) (size u v : ℕ) (i b c p q : List ℕ) → obeyed r k (stage size u i b p) f ≡ obeyed r k (stage size v i c q) f
+unfolding obeyed renewed
+obeyed-same r command.Blocks f size u v i b c p q = refl
+obeyed-same r command.Bytes f size u v i b c p q = refl
+obeyed-same r (command.Look k) f size u v i b c p q = refl
+obeyed-same r (command.Change k) f size u v i b c p q = refl
+obeyed-same r command.Unknown f size u v i b c p q = refl
 
--- A command on the image, which is lent as the first k bytes of its room.
-module _ (line image buffer : List ℕ) (at size k : ℕ) (fits : 0 + k ≤ length image) (all : k ≡ size) (begins : at ≡ endAt (view line) (length line) space′ 0) where
-  on-scene : (r : Rooms) (used : ℕ) (page : List ℕ) → r .buffer ≡ length buffer
-      → changed (scene line at (take k (drop 0 image)) buffer) ≡ changed (sceneOf r (view line) (length line) (stage size used image buffer page))
-  on-scene r used page h = rw (h, begins, length-part image 0 k fits, view-cut image 0 k fits, all)
+-- A line that is too long.
+pub commanded-long : (r : Rooms) (s : Bytes) (n : ℕ) (t : Stage) → 4096 < n → commanded r s n t ≡ refused t (t .buffer)
+unfolding commanded
+commanded-long r s n t h = rw (lt-leb n 4096 h, commanded)
 
-  pub on-image-leaves : (page : List ℕ) (ink : Ink) (r : Said) (ys b p : List ℕ) → length ys ≡ length (take k (drop 0 image))
-      → scenes.Leaves (changed (scene line at (take k (drop 0 image)) buffer)) (sheet ink page) r ys b p
-      → Leaves (onImage (rooms image buffer page) (view line) (length line) (stage size (ink .at) image buffer page)) (sheet ink page)
-      (record { size = size; ink = r .ink; good = r .good }) (take 0 image ++ (ys ++ drop k (drop 0 image))) b p
-  unfolding onImage
-  on-image-leaves page ink r ys b p len l =
-      let same = on-scene (rooms image buffer page) (ink .at) page refl in
-      record {
-        size = refl;
-        good = l .good ∙ ap (λ o. o .good) same;
-        image =
-            view-part image ys 0 k fits (len ∙ length-part image 0 k fits)
-            ∙ ap (λ j. paste (view image) 0 j (view ys)) all
-            ∙ ap (paste (view image) 0 size) (l .image ∙ ap (λ o. o .image) same);
-        buffer = l .buffer ∙ ap (λ o. o .buffer) same;
-        page = rw same at (l .page);
-      }
+-- A line whose fields were read, into values and a room of zeros: a bad one, and a good one.
+module _ (line image buffer page : List ℕ) (size used : ℕ) (short : length line ≤ 4096) (good : Bool) (vs texts b : List ℕ)
+    (k : Takes (asked (view line) (length line) (length buffer) (view (replicate {A = ℕ} 8 0)) (view (replicate {A = ℕ} 256 0)) (view buffer)) (length line) good vs texts b) where
+  taken : Takes (asked (view line) (length line) (length buffer) zeros zeros (view buffer)) (length line) good vs texts b
+  taken = rw (view-zeros 256) at (rw (view-zeros 8) at k)
 
--- A line by its word.
-module _ (r : Rooms) (s : Bytes) (n : ℕ) (t : Stage) where
-  pub commanded-long : 4096 < n → commanded r s n t ≡ refused t (t .buffer)
-  unfolding commanded
-  commanded-long h = rw (lt-leb n 4096 h, commanded)
+  ends : (g : Bool) → good ≡ g → eqb (asked (view line) (length line) (length buffer) zeros zeros (view buffer) .at) (length line) ≡ g
+  ends g h = sym (taken .good) ∙ h
 
-  module _ (at : ℕ) (begins : at ≡ endAt s n space′ 0) (short : n ≤ 4096) where
-    pub commanded-blocks : true ≡ isWord s n at (view (98 ∷ 108 ∷ 111 ∷ 99 ∷ 107 ∷ 115 ∷ [])) 6 → commanded r s n t ≡ renewed r s n 512 t
-    unfolding commanded
-    commanded-blocks h = rw (le-leb n 4096 short, ← rw begins at h, commanded)
+  pub commanded-bad : good ≡ false
+      → commanded (rooms image buffer page) (view line) (length line) (stage size used image buffer page) ≡ refused (stage size used image buffer page) (view b)
+  unfolding commanded answered
+  commanded-bad h = rw (le-leb (length line) 4096 short, ends false h, commanded, answered) (ap (refused (stage size used image buffer page)) (sym (taken .buffer)))
 
-    pub commanded-bytes : false ≡ isWord s n at (view (98 ∷ 108 ∷ 111 ∷ 99 ∷ 107 ∷ 115 ∷ [])) 6
-        → true ≡ isWord s n at (view (98 ∷ 121 ∷ 116 ∷ 101 ∷ 115 ∷ [])) 5 → commanded r s n t ≡ renewed r s n 1 t
-    unfolding commanded
-    commanded-bytes h l = rw (le-leb n 4096 short, ← rw begins at h, ← rw begins at l, commanded)
-
-    pub commanded-other : false ≡ isWord s n at (view (98 ∷ 108 ∷ 111 ∷ 99 ∷ 107 ∷ 115 ∷ [])) 6
-        → false ≡ isWord s n at (view (98 ∷ 121 ∷ 116 ∷ 101 ∷ 115 ∷ [])) 5 → commanded r s n t ≡ onImage r s n t
-    unfolding commanded
-    commanded-other h l = rw (le-leb n 4096 short, ← rw begins at h, ← rw begins at l, commanded)
+  pub commanded-good : (c : Command) (told : Told) (s : Sheet) (i b′ p : List ℕ) → good ≡ true → c ≡ commandOf (view line) (length line) → length b ≡ length buffer
+      → Leaves (obeyed (rooms image b page) c (stage size used image b page) (held vs texts b)) s told i b′ p
+      → Leaves (commanded (rooms image buffer page) (view line) (length line) (stage size used image buffer page)) s told i b′ p
+  unfolding commanded answered
+  commanded-good c told s i b′ p h e n l =
+      rw (le-leb (length line) 4096 short, ends true h, commanded, answered)
+      (rw (← taken .values, ← taken .room, ← taken .buffer, ← e, ← n, obeyed-same (rooms image b page) c (held vs texts b) size used used image buffer b page page) l)
 
 -- What is in use of the page says nothing to a command.
 commanded-same : (r : Rooms) (s : Bytes) (n size u v : ℕ) (i b p : List ℕ) → commanded r s n (stage size u i b p) ≡ commanded r s n (stage size v i b p)
-unfolding commanded renewed onImage
-commanded-same r s n size u v i b p = refl
+unfolding commanded answered
+commanded-same r s n size u v i b p =
+    let f = asked s n (r .buffer) zeros zeros (view b) in
+    let t = stage size u i b p in
+    ap (λ (o : After). elim (leb n 4096) [ true ↦ elim (eqb (f .at) n) [ true ↦ o | false ↦ refused t (f .buffer) ] | false ↦ refused t (t .buffer) ])
+    (obeyed-same r (commandOf s n) (unplaced f) size u v i b b p p)
 
 -- A line played.
 module _ (r : Rooms) (s : Bytes) (n x : ℕ) (t : Stage) where
@@ -225,7 +214,7 @@ module _ (text i₀ b₀ p₀ i b p : List ℕ) (a e x : ℕ) (t u : Stage) (ima
   turned : u ≡ turn (rooms i₀ b₀ p₀) (view text) (length text) a e x t
   turned =
       line
-      ∙ rw (image, buffer, page, length-part text a (e - a) (omega arith), view-cut text a (e - a) (omega arith))
+      ∙ rw (image, buffer, page, length-part text a (e - a) (omega arith), view-cut text a (e - a))
 
   module _ (all : Stage) (inside : a < length text) (counted : x ≤ a) (found : e ≡ endAt (view text) (length text) newline a)
       (so-far : rest (rooms i₀ b₀ p₀) (view text) (length text) a x t ≡ all) where

@@ -6,13 +6,16 @@ use mathlib.Core.List.{List, [], _∷_, _++_}
 use mathlib.Core.Bool.{Bool, true, false}
 use lib.Dec.{leb, ltb, eqb}
 use lib.ListN.{length}
-use Rattle.model.specs.Bytes.{Bytes, view, paste, clear, _and_, _or_}
-use Rattle.model.specs.Catalog.{newline, space′}
+use Rattle.model.specs.Bytes.{Bytes, view, paste, zeros, clear, _and_, _or_}
+use Rattle.model.specs.Catalog.{newline}
 use Rattle.ink.specs.Ink.{Sheet, sheet, emit, Prints}
-use Rattle.script.specs.Fields.{endAt}
+use Rattle.script.specs.Fields.{Fields, endAt}
 use Rattle.replies.specs.Lines.{okLine, badLine}
-use Rattle.commands.specs.Scenes.{Scene, asked, cut}
-use Rattle.commands.specs.Commands.{says}
+use Rattle.lines.specs.declared.Command.{Command}
+use Rattle.lines.specs.declared.Command.the-variants as command
+use Rattle.lines.specs.Commands.{commandOf, asked, unplaced, cut}
+use Rattle.lines.specs.Left.{Left}
+use Rattle.looks.specs.Looks.{looked}
 use Rattle.changes.specs.Changes.{changed}
 use Rattle.player.specs.declared.After.{After as Told}
 
@@ -45,51 +48,38 @@ pub record After : Type 0 where
   pub good : Bool
   pub text : List ℕ
 
--- the scene of a line s of n bytes
-abbrev pub sceneOf : Rooms → Bytes → ℕ → Stage → Scene
-sceneOf r s n t =
-    record {
-      line = s;
-      size = n;
-      at = endAt s n space′ 0;
-      long = t .size;
-      image = cut (t .image) 0 (t .size);
-      most = r .buffer;
-      buffer = t .buffer;
-    }
-
 -- a bad line
 abbrev pub refused : Stage → Bytes → After
 refused t buffer = record { size = t .size; image = t .image; buffer = buffer; good = false; text = [] }
 
--- `blocks N` and `bytes LENGTH`: "a new image of N x 512 zero bytes", so many units
-unfoldable pub renewed : Rooms → Bytes → ℕ → ℕ → Stage → After
-renewed r s n unit t =
-    let f = asked (sceneOf r s n t) (78 ∷ []) in
-    elim (eqb (f .at) n and leb (f .values 0 * unit) (r .image)) [
-      | true ↦
-          record { size = f .values 0 * unit; image = clear (t .image) 0 (f .values 0 * unit); buffer = f .buffer; good = true; text = okLine [] [] }
-      | false ↦ refused t (f .buffer)
+-- `blocks N` and `bytes LENGTH`: "a new image of N x 512 zero bytes", of so many where the room has them
+unfoldable pub renewed : Rooms → ℕ → Stage → Bytes → After
+renewed r wanted t buffer =
+    elim (leb wanted (r .image)) [
+      | true ↦ record { size = wanted; image = clear (t .image) 0 wanted; buffer = buffer; good = true; text = okLine [] [] }
+      | false ↦ refused t buffer
     ]
 
--- a command on the image as it is
-unfoldable pub onImage : Rooms → Bytes → ℕ → Stage → After
-onImage r s n t =
-    let o = changed (sceneOf r s n t) in
-    record { size = t .size; image = paste (t .image) 0 (t .size) (o .image); buffer = o .buffer; good = o .good; text = o .text }
+-- what a command on the image as it is leaves
+abbrev pub onImage : Stage → Left → After
+onImage t o = record { size = t .size; image = paste (t .image) 0 (t .size) (o .image); buffer = o .buffer; good = o .good; text = o .text }
 
--- a line by its word: `blocks`, `bytes`, and the others
+-- a command with its fields
+unfoldable pub obeyed : Rooms → Command → Stage → Fields → After
+obeyed r command.Blocks t f = renewed r (f .values 0 * 512) t (f .buffer)
+obeyed r command.Bytes t f = renewed r (f .values 0) t (f .buffer)
+obeyed r (command.Look k) t f = onImage t (looked k (t .size) (cut (t .image) 0 (t .size)) (r .buffer) f)
+obeyed r (command.Change k) t f = onImage t (changed k (t .size) (cut (t .image) 0 (t .size)) (r .buffer) f)
+obeyed r command.Unknown t f = refused t (f .buffer)
+
+-- a line that is not too long: "Every field is checked before anything is done."
+unfoldable pub answered : Rooms → Bytes → ℕ → Stage → After
+answered r s n t =
+    let f = asked s n (r .buffer) zeros zeros (t .buffer) in
+    elim (eqb (f .at) n) [ true ↦ obeyed r (commandOf s n) t (unplaced f) | false ↦ refused t (f .buffer) ]
+
 unfoldable pub commanded : Rooms → Bytes → ℕ → Stage → After
-commanded r s n t =
-    let c = sceneOf r s n t in
-    elim (leb n lineMost) [
-      | true ↦
-          elim (says c (98 ∷ 108 ∷ 111 ∷ 99 ∷ 107 ∷ 115 ∷ [])) [
-            | true ↦ renewed r s n 512 t
-            | false ↦ elim (says c (98 ∷ 121 ∷ 116 ∷ 101 ∷ 115 ∷ [])) [ true ↦ renewed r s n 1 t | false ↦ onImage r s n t ]
-          ]
-      | false ↦ refused t (t .buffer)
-    ]
+commanded r s n t = elim (leb n lineMost) [ true ↦ answered r s n t | false ↦ refused t (t .buffer) ]
 
 -- "An empty line, and a line whose first byte is `#`, print nothing."
 unfoldable pub isSilent : Bytes → ℕ → Bool
@@ -158,3 +148,10 @@ pub record Leaves (o : After) (s : Sheet) (r : Told) (i b p : List ℕ) : Type 0
   pub image : view i ≡ o .image
   pub buffer : view b ≡ o .buffer
   pub page : Prints (o .text) s (sheet (r .ink) p)
+
+-- A new image was asked for, of so many bytes: of a room v of `room` bytes, whose image had `had`, this is left.
+pub record Renews (room wanted had : ℕ) (v : Bytes) (s : Sheet) (r : Told) (i p : List ℕ) : Type 0 where
+  pub good : r .good ≡ leb wanted room
+  pub size : r .size ≡ elim (leb wanted room) [ true ↦ wanted | false ↦ had ]
+  pub image : view i ≡ elim (leb wanted room) [ true ↦ clear v 0 wanted | false ↦ v ]
+  pub page : Prints (elim (leb wanted room) [ true ↦ okLine [] [] | false ↦ [] ]) s (sheet (r .ink) p)

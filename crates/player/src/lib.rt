@@ -4,12 +4,15 @@ ghost use mathlib.Core.Path.{_≡_};
 ghost use Prim.Native.Nat.{_≤_};
 ghost use lib.ListN.{length};
 ghost use Rattle.model.specs.Bytes.{view};
-ghost use Rattle.model.specs.Catalog.{space′};
 ghost use Rattle.ink.specs.Ink.{sheet};
-ghost use Rattle.script.specs.Fields.{endAt};
-ghost use Rattle.player.specs.Played.{rooms, stage, renewed, onImage, commanded, isSilent, ready as readyAt, played, playedAll, staged, Leaves, Holds};
+ghost use Rattle.lines.specs.declared.Command.the-variants as command;
+ghost use Rattle.lines.specs.Commands.{Fitting, held};
+ghost use Rattle.player.specs.Played.{rooms, stage, Renews, obeyed, commanded, isSilent, ready as readyAt, played, playedAll, staged, Leaves, Holds};
 use ink::Ink;
 use libc::STDOUT_FILENO;
+use lines::Change;
+use lines::Command;
+use lines::Look;
 use script::FIELDS;
 use script::ROOM;
 
@@ -42,31 +45,12 @@ struct After {
     good: bool,
 }
 
-// A new image of zeros: the number in the line times `unit` bytes.
-fn renew(
-    line: &[u8],
-    at: usize,
-    unit: usize,
-    image: &mut [u8],
-    buffer: &mut [u8],
-    page: &mut [u8],
-    ink: Ink,
-    size: usize,
-) -> After
-    requires { ⌜ (length (now line) ≤ 4096) × (unit ≤ 512) × (size ≤ length (now image)) × (at ≡ endAt (view (now line)) (length (now line)) space′ 0) ⌝ }
-    ensures { λ r. ⌜ Leaves (renewed (rooms (now (image .entry)) (now (buffer .entry)) (now (page .entry))) (view (now (line .entry))) (length (now (line .entry))) unit (stage size (ink .at) (now (image .entry)) (now (buffer .entry)) (now (page .entry)))) (sheet ink (now (page .entry))) r (now (image .exit)) (now (buffer .exit)) (now (page .exit)) ⌝ }
+// A new image of so many zeros, where its room has them.
+fn renew(wanted: usize, image: &mut [u8], page: &mut [u8], ink: Ink, size: usize) -> After
+    requires { ⌜ size ≤ length (now image) ⌝ }
+    ensures { λ r. ⌜ Renews (length (now (image .entry))) wanted size (view (now (image .entry))) (sheet ink (now (page .entry))) r (now (image .exit)) (now (page .exit)) ⌝ }
     ensures { λ r. ⌜ r .size ≤ length (now (image .entry)) ⌝ }
 {
-    let mut values = [0usize; FIELDS];
-    let mut room = [0u8; ROOM];
-    if !script::read_fields(line, at, b"N", &mut values, &mut room, buffer) {
-        return After {
-            size,
-            ink,
-            good: false,
-        };
-    }
-    let wanted = values[0] * unit;
     if image.len() < wanted {
         return After {
             size,
@@ -82,26 +66,77 @@ fn renew(
     }
 }
 
-// A command on the image as it is.
-fn on_image(
-    line: &[u8],
-    at: usize,
-    image: &mut [u8],
+fn look(
+    look: Look,
+    image: &[u8],
+    values: &[usize; FIELDS],
+    room: &[u8],
     buffer: &mut [u8],
     page: &mut [u8],
     ink: Ink,
     size: usize,
 ) -> After
-    requires { ⌜ (length (now line) ≤ 4096) × (size ≤ length (now image)) × (at ≡ endAt (view (now line)) (length (now line)) space′ 0) ⌝ }
-    ensures { λ r. ⌜ Leaves (onImage (rooms (now (image .entry)) (now (buffer .entry)) (now (page .entry))) (view (now (line .entry))) (length (now (line .entry))) (stage size (ink .at) (now (image .entry)) (now (buffer .entry)) (now (page .entry)))) (sheet ink (now (page .entry))) r (now (image .exit)) (now (buffer .exit)) (now (page .exit)) ⌝ }
-    ensures { λ r. ⌜ r .size ≤ length (now (image .entry)) ⌝ }
+    requires { ⌜ (Fitting (command.Look look) (length (now buffer)) (now values)) × (length (now room) ≡ 256) × (size ≤ length (now image)) ⌝ }
+    ensures { λ r. ⌜ Leaves (obeyed (rooms (now (image .entry)) (now (buffer .entry)) (now (page .entry))) (command.Look look) (stage size (ink .at) (now (image .entry)) (now (buffer .entry)) (now (page .entry))) (held (now (values .entry)) (now (room .entry)) (now (buffer .entry)))) (sheet ink (now (page .entry))) r (now (image .exit)) (now (buffer .exit)) (now (page .exit)) ⌝ }
+    ensures { λ r. ⌜ r .size ≡ size ⌝ }
 {
-    let said = changes::run(line, at, &mut image[0..size], buffer, page, ink);
+    let said = looks::run(look, &image[0..size], values, room, buffer, page, ink);
     let told = said.ink;
     After {
         size,
         ink: told,
         good: said.good,
+    }
+}
+
+fn change(
+    change: Change,
+    image: &mut [u8],
+    values: &[usize; FIELDS],
+    room: &[u8],
+    buffer: &mut [u8],
+    page: &mut [u8],
+    ink: Ink,
+    size: usize,
+) -> After
+    requires { ⌜ (Fitting (command.Change change) (length (now buffer)) (now values)) × (length (now room) ≡ 256) × (size ≤ length (now image)) ⌝ }
+    ensures { λ r. ⌜ Leaves (obeyed (rooms (now (image .entry)) (now (buffer .entry)) (now (page .entry))) (command.Change change) (stage size (ink .at) (now (image .entry)) (now (buffer .entry)) (now (page .entry))) (held (now (values .entry)) (now (room .entry)) (now (buffer .entry)))) (sheet ink (now (page .entry))) r (now (image .exit)) (now (buffer .exit)) (now (page .exit)) ⌝ }
+    ensures { λ r. ⌜ r .size ≡ size ⌝ }
+{
+    let said = changes::run(change, &mut image[0..size], values, room, buffer, page, ink);
+    let told = said.ink;
+    After {
+        size,
+        ink: told,
+        good: said.good,
+    }
+}
+
+// Does a command whose fields are good.
+fn obey(
+    command: Command,
+    image: &mut [u8],
+    values: &[usize; FIELDS],
+    room: &[u8],
+    buffer: &mut [u8],
+    page: &mut [u8],
+    ink: Ink,
+    size: usize,
+) -> After
+    requires { ⌜ (Fitting command (length (now buffer)) (now values)) × (length (now room) ≡ 256) × (size ≤ length (now image)) ⌝ }
+    ensures { λ r. ⌜ Leaves (obeyed (rooms (now (image .entry)) (now (buffer .entry)) (now (page .entry))) command (stage size (ink .at) (now (image .entry)) (now (buffer .entry)) (now (page .entry))) (held (now (values .entry)) (now (room .entry)) (now (buffer .entry)))) (sheet ink (now (page .entry))) r (now (image .exit)) (now (buffer .exit)) (now (page .exit)) ⌝ }
+    ensures { λ r. ⌜ r .size ≤ length (now (image .entry)) ⌝ }
+{
+    match command {
+        Command::Blocks => renew(values[0] * BLOCK, image, page, ink, size),
+        Command::Bytes => renew(values[0], image, page, ink, size),
+        Command::Look(asked) => look(asked, image, values, room, buffer, page, ink, size),
+        Command::Change(asked) => change(asked, image, values, room, buffer, page, ink, size),
+        Command::Unknown => After {
+            size,
+            ink,
+            good: false,
+        },
     }
 }
 
@@ -117,6 +152,8 @@ fn command(
     ensures { λ r. ⌜ Leaves (commanded (rooms (now (image .entry)) (now (buffer .entry)) (now (page .entry))) (view (now (line .entry))) (length (now (line .entry))) (stage size (ink .at) (now (image .entry)) (now (buffer .entry)) (now (page .entry)))) (sheet ink (now (page .entry))) r (now (image .exit)) (now (buffer .exit)) (now (page .exit)) ⌝ }
     ensures { λ r. ⌜ r .size ≤ length (now (image .entry)) ⌝ }
 {
+    let mut values = [0usize; FIELDS];
+    let mut room = [0u8; ROOM];
     if LONGEST_LINE < line.len() {
         return After {
             size,
@@ -124,14 +161,16 @@ fn command(
             good: false,
         };
     }
-    let at = script::word_end(line);
-    if script::is_word(line, at, b"blocks") {
-        return renew(line, at, BLOCK, image, buffer, page, ink, size);
+    let read = lines::read_line(line, &mut values, &mut room, buffer);
+    if !read.good {
+        return After {
+            size,
+            ink,
+            good: false,
+        };
     }
-    if script::is_word(line, at, b"bytes") {
-        return renew(line, at, 1, image, buffer, page, ink, size);
-    }
-    on_image(line, at, image, buffer, page, ink, size)
+    let asked = read.command;
+    obey(asked, image, &values, &room, buffer, page, ink, size)
 }
 
 // Does a line print nothing: is it empty, or a comment?

@@ -3,7 +3,7 @@
 ghost use mathlib.Core.Path.{_≡_};
 ghost use Prim.Native.Nat.{_+_, _-_, _*_, _≤_, _<_, min, max};
 ghost use lib.ListN.{length};
-ghost use Rattle.model.specs.Bytes.{view, put, paste, from, clear, putWord, putLong, word, long, equalBytes, placeOf};
+ghost use Rattle.model.specs.Bytes.{view, put, paste, from, same, clear, putWord, putLong, word, long, equalBytes, placeOf};
 ghost use Rattle.model.specs.Map.{allZero};
 ghost use Rattle.model.specs.File.{pointer};
 
@@ -87,15 +87,23 @@ pub fn copy_run(dst: &mut [u8], to: usize, src: &[u8], at: usize, k: usize)
     }
 }
 
+// k equal bytes.
+pub fn fill_run(dst: &mut [u8], to: usize, k: usize, byte: u8)
+    requires { ⌜ to + k ≤ length (now dst) ⌝ }
+    ensures { λ _. ⌜ view (now (dst .exit)) ≡ paste (view (now (dst .entry))) to k (same byte) ⌝ }
+{
+    let mut filled = 0;
+    while filled < k {
+        dst[to + filled] = byte;
+        filled += 1;
+    }
+}
+
 pub fn clear_run(dst: &mut [u8], to: usize, k: usize)
     requires { ⌜ to + k ≤ length (now dst) ⌝ }
     ensures { λ _. ⌜ view (now (dst .exit)) ≡ clear (view (now (dst .entry))) to k ⌝ }
 {
-    let mut cleared = 0;
-    while cleared < k {
-        dst[to + cleared] = 0;
-        cleared += 1;
-    }
+    fill_run(dst, to, k, 0);
 }
 
 // Are the k bytes of f from a on those of g from b on?

@@ -11,7 +11,7 @@ use Rattle.model.specs.Directory.{Sort, inactive, directory, improper, file, so
 use Rattle.model.proofs.SumLaws.{is-self}
 use Rattle.model.proofs.Laws.Near.{Near, same-near}
 use Rattle.model.proofs.Laws.Lookup.{seek-some}
-use Rattle.theorems.proofs.Spelled.{Spelled, same-spelled, SameNames, none-left, one-more}
+use Rattle.theorems.proofs.Spelled.{Spelled, same-spelled, AlikeNames, none-left, one-more}
 
 -- the directories of `In`, which has all that is below one of them
 pub record Still (v w : Bytes) (In : ℕ → Type 0) : Type 0 where
@@ -34,7 +34,7 @@ module _ {v w : Bytes} {In : ℕ → Type 0} (K : Still v w In) (o q : Bytes) wh
   found-same E d h e =
       rw (K .slots d h e) (seek-same E (kids v d) (λ s c. let A = K .entry d s h e c in (A .0, A .1)))
 
-  pub along-same : {ps qs : List Part} → SameNames o q ps qs → (d : ℕ) → In d → sort v d ≡ directory → along w q d qs ≡ along v o d ps
+  pub along-same : {ps qs : List Part} → AlikeNames o q ps qs → (d : ℕ) → In d → sort v d ≡ directory → along w q d qs ≡ along v o d ps
   unfolding along
   along-same none-left d h e = refl
   along-same (one-more E none-left) d h e = ap (λ x. last x d) (found-same E d h e)

@@ -22,7 +22,7 @@ use Rattle.model.proofs.Laws.Settled.{done-image}
 use Rattle.paths.specs.Ways.{WaysStay}
 use Rattle.paths.proofs.NewLaws.{entry-stay}
 use Rattle.paths.proofs.KeptLaws.{create-path}
-use Rattle.theorems.proofs.Spelled.{spelled-bears, SameNames, names-self}
+use Rattle.theorems.proofs.Spelled.{spelled-bears, AlikeNames, alike-self}
 use Rattle.theorems.proofs.Ways.{Reaches, path-reaches, is-missing, reaches-names}
 use Rattle.theorems.proofs.Carried.{carried, step-holds, last-found}
 
@@ -43,7 +43,7 @@ pub record Stands (u : Bytes) (a : ℕ) (w : Wanted) : Type 0 where
 -- In the directory d the names ps of p, in every spelling, lead to a new entry; c blocks are taken.
 record Made (n : ℕ) (v : Bytes) (d : ℕ) (p : Bytes) (ps : List Part) (w : Wanted) (c : ℕ) (u : Bytes) : Type 0 where
   slot : ℕ
-  found : (o : Bytes) (os : List Part) → SameNames p o ps os → lookup u o os ≡ there d slot
+  found : (o : Bytes) (os : List Part) → AlikeNames p o ps os → lookup u o os ≡ there d slot
   stands : Stands u slot w
   space : room mapPlace u n + c ≡ room mapPlace v n
 
@@ -71,7 +71,7 @@ module _ {n : ℕ} {g : Bytes} {a d z : ℕ} {p : Bytes} {x : Part} {w : Wanted}
             };
       }
 
-  made-found : {v : Bytes} {ps : List Part} → WaysStay v made → Reaches v p ps d x → (q : Bytes) (qs : List Part) → SameNames p q ps qs → lookup made q qs ≡ there d a
+  made-found : {v : Bytes} {ps : List Part} → WaysStay v made → Reaches v p ps d x → (q : Bytes) (qs : List Part) → AlikeNames p q ps qs → lookup made q qs ≡ there d a
   made-found stays R q qs M =
       let T = made-step C in
       let D = carried R (reaches-names R M) (λ xs. stays xs d) (step-holds T) in
@@ -96,7 +96,7 @@ pub record Created (n : ℕ) (v p : Bytes) (k : ℕ) (w : Wanted) (u : Bytes) : 
   pub slot : ℕ
   pub found : target u p k ≡ there (home (target v p k)) slot
   -- by every other spelling too
-  pub spelled : (o : Bytes) (i : ℕ) → SameNames p o (parts p k) (parts o i) → target u o i ≡ there (home (target v p k)) slot
+  pub spelled : (o : Bytes) (i : ℕ) → AlikeNames p o (parts p k) (parts o i) → target u o i ≡ there (home (target v p k)) slot
   -- every path to another entry leads there still
   pub elsewhere : (o : Bytes) (i e s : ℕ) → target v o i ≡ there e s → target u o i ≡ there e s
   pub stands : Stands u slot w
@@ -119,7 +119,7 @@ module _ (len : ℕ) (v p : Bytes) (k : ℕ) (w : Wanted) (octets : Octets v) wh
       record {
         was = is-missing (target v p k) (r 5) (r 6) (r 7);
         slot = M .slot;
-        found = M .found p (parts p k) (names-self p (parts p k));
+        found = M .found p (parts p k) (alike-self p (parts p k));
         spelled = λ o i N. M .found o (parts o i) N;
         elsewhere = still;
         stands = M .stands;

@@ -19,7 +19,7 @@ use Rattle.model.proofs.Laws.Destroy.{Destroys, low, gone-step, gone-sort, gone
 use Rattle.model.proofs.Laws.Settled.{done-image}
 use Rattle.paths.proofs.GoneLaws.{gone-stays}
 use Rattle.paths.proofs.KeptLaws.{destroy-path}
-use Rattle.theorems.proofs.Spelled.{SameNames, names-self}
+use Rattle.theorems.proofs.Spelled.{AlikeNames, alike-self}
 use Rattle.theorems.proofs.Ways.{Reaches, path-reaches, is-there, reaches-names}
 use Rattle.theorems.proofs.Carried.{carried, step-holds, last-gone}
 use Rattle.theorems.proofs.Counting.{room-list}
@@ -34,7 +34,7 @@ module _ {n : ℕ} {v : Bytes} {a d : ℕ} (D : Destroys n v a d) where
   gone-room = room-list n v gone (blocks v a) (low D) (gone-free D)
 
   -- the name, and every other spelling of the path
-  gone-missing : {p q : Bytes} {y : Part} (ps qs : List Part) → isActive (sort v a) ≡ true → sameName v (at a) p y ≡ true → Reaches v p ps d y → SameNames p q ps qs
+  gone-missing : {p q : Bytes} {y : Part} (ps qs : List Part) → isActive (sort v a) ≡ true → sameName v (at a) p y ≡ true → Reaches v p ps d y → AlikeNames p q ps qs
       → lookup gone q qs ≡ missing d
   gone-missing ps qs alive m R N =
       let T = gone-step D in
@@ -46,7 +46,7 @@ pub record Destroyed (n : ℕ) (v p : Bytes) (k : ℕ) (w : Bytes) : Type 0 wher
   pub was : target v p k ≡ there (home (target v p k)) (spot (target v p k))
   pub gone : target w p k ≡ missing (home (target v p k))
   -- by every other spelling too
-  pub nowhere : (q : Bytes) (i : ℕ) → SameNames p q (parts p k) (parts q i) → target w q i ≡ missing (home (target v p k))
+  pub nowhere : (q : Bytes) (i : ℕ) → AlikeNames p q (parts p k) (parts q i) → target w q i ≡ missing (home (target v p k))
   -- every path to another entry leads there still
   pub elsewhere : (o : Bytes) (i d s : ℕ) → target v o i ≡ there d s → (s ≡ spot (target v p k) → ⊥) → target w o i ≡ there d s
   pub idle : sort w (spot (target v p k)) ≡ inactive
@@ -69,7 +69,7 @@ module _ (len : ℕ) (v p : Bytes) (k : ℕ) (octets : Octets v) where
       let m = seek-some v p (lastPart (parts p k)) (kids v (home (target v p k))) (spot (target v p k)) (E .found) .2 in
       record {
         was = is-there (target v p k) (r 3) (r 4) (r 5);
-        gone = gone-missing D (parts p k) (parts p k) (E .alive) m R (names-self p (parts p k));
+        gone = gone-missing D (parts p k) (parts p k) (E .alive) m R (alike-self p (parts p k));
         nowhere = λ q i N. gone-missing D (parts p k) (parts q i) (E .alive) m R N;
         elsewhere = still;
         idle = gone-sort D;

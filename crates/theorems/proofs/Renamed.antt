@@ -31,14 +31,14 @@ use Rattle.paths.proofs.PathLaws.{seek-one, path-spells, spells-passed}
 use Rattle.paths.proofs.CarryLaws.{step-top}
 use Rattle.paths.proofs.CallLaws.{rename-image, rename-stays}
 use Rattle.paths.proofs.KeptLaws.{rename-path}
-use Rattle.theorems.proofs.Spelled.{Spelled, spelled-sym, spelled-trans, spelled-bears, bears-spelled, Names, SameNames, names-self, none-left, one-more}
+use Rattle.theorems.proofs.Spelled.{Spelled, spelled-sym, spelled-trans, spelled-bears, bears-spelled, Names, AlikeNames, alike-self, none-left, one-more}
 use Rattle.theorems.proofs.Ways.{At, at-seen, at-depth, Leads, arrived, onward, reached, start, under, Reaches, path-reaches, is-there, reaches-at, reaches-names}
 use Rattle.theorems.proofs.Below.{Still, along-same}
 use Rattle.theorems.proofs.Carried.{near-same, carried, way-off, step-kids, step-holds, last-found, last-gone}
 
 -- A path o that begins with the names of p, and the same path with the name z of q for the last of these.
 pub data Through (p o o′ q : Bytes) (z : Part) : List Part → List Part → List Part → Type 0 where
-  renamed-here : {x y y′ : Part} {ys ys′ : List Part} → Spelled p x o y → Spelled o′ y′ q z → SameNames o o′ ys ys′
+  renamed-here : {x y y′ : Part} {ys ys′ : List Part} → Spelled p x o y → Spelled o′ y′ q z → AlikeNames o o′ ys ys′
       → Through p o o′ q z (x ∷ []) (y ∷ ys) (y′ ∷ ys′)
   on-the-way : {x x₂ y y₂ y′ y′₂ : Part} {xs ys ys′ : List Part} → Spelled p x o y → Spelled o y o′ y′
       → Through p o o′ q z (x₂ ∷ xs) (y₂ ∷ ys) (y′₂ ∷ ys′) → Through p o o′ q z (x ∷ x₂ ∷ xs) (y ∷ y₂ ∷ ys) (y′ ∷ y′₂ ∷ ys′)
@@ -75,7 +75,7 @@ module _ {n : ℕ} {v : Bytes} {a d : ℕ} (q : Bytes) (j : ℕ) (S : Sound n v)
         last-found now-step now-sound (C .1) (rw now-sort alive)
         (bears-same now (at a) o (C .0) (spelled-bears (spelled-sym (C .2)) now-bears))
 
-    now-gone : sameName v (at a) p y ≡ true → SameNames p o ps os → (Spelled p y q (part 0 j) → ⊥) → lookup now o os ≡ missing d
+    now-gone : sameName v (at a) p y ≡ true → AlikeNames p o ps os → (Spelled p y q (part 0 j) → ⊥) → lookup now o os ≡ missing d
     now-gone m N off =
         let C = carry (reaches-names R N) in
         last-gone now-step now-sound (C .1) alive m (C .2)
@@ -99,7 +99,7 @@ module _ {n : ℕ} {v : Bytes} {a d : ℕ} (q : Bytes) (j : ℕ) (S : Sound n v)
   module _ {p : Bytes} {y : Part} (bears : sameName v (at a) p y ≡ true) (o o′ : Bytes) where
     -- at the entry
     entry-same : {m : ℕ} {z z′ : Part} {zs zs′ : List Part} → At v a m → Seen now d → sort now d ≡ directory → Spelled p y o z
-        → Spelled o′ z′ q (part 0 j) → SameNames o o′ zs zs′ → along now o′ d (z′ ∷ zs′) ≡ along v o d (z ∷ zs)
+        → Spelled o′ z′ q (part 0 j) → AlikeNames o o′ zs zs′ → along now o′ d (z′ ∷ zs′) ≡ along v o d (z ∷ zs)
     unfolding along
     entry-same {m} {z} {z′} A s h E F N = go N
       where
@@ -111,7 +111,7 @@ module _ {n : ℕ} {v : Bytes} {a d : ℕ} (q : Bytes) (j : ℕ) (S : Sound n v)
             seek-one now-sound o′ z′ d a s (rw (step-kids now-step) (P .inside)) (rw now-sort alive)
             (bears-same now (at a) o′ z′ (spelled-bears (spelled-sym F) now-bears))
 
-        go : {zs zs′ : List Part} → SameNames o o′ zs zs′ → along now o′ d (z′ ∷ zs′) ≡ along v o d (z ∷ zs)
+        go : {zs zs′ : List Part} → AlikeNames o o′ zs zs′ → along now o′ d (z′ ∷ zs′) ≡ along v o d (z ∷ zs)
         go none-left = rw (old, new) refl
         go (one-more {x = u} {y = u′} {xs = us} {ys = us′} G M) =
             rw (old, new, along) (into (sort v a) refl)
@@ -165,7 +165,7 @@ pub record Renamed (v p : Bytes) (k : ℕ) (q : Bytes) (j : ℕ) (w : Bytes) (d 
   pub gone : (Spelled p (lastPart (parts p k)) q (part 0 j) → ⊥) → target w p k ≡ missing d
   -- and in every other spelling
   pub nowhere : (Spelled p (lastPart (parts p k)) q (part 0 j) → ⊥)
-      → (o : Bytes) (i : ℕ) → SameNames p o (parts p k) (parts o i) → target w o i ≡ missing d
+      → (o : Bytes) (i : ℕ) → AlikeNames p o (parts p k) (parts o i) → target w o i ≡ missing d
   -- every path to another entry leads there still, unless it passes the entry a, a directory
   pub elsewhere : (o : Bytes) (i e s : ℕ) → target v o i ≡ there e s → (s ≡ a → ⊥) → count a (passed v o (parts o i)) ≡ 0 → target w o i ≡ there e s
 
@@ -192,7 +192,7 @@ module _ (len : ℕ) (v p : Bytes) (k : ℕ) (q : Bytes) (j : ℕ) where
       let on : (xs : List ℕ) → Way v volume xs d → WayStays v (renamed v a q j) xs d = λ xs w. stays xs d (way-off S xs d a w (E .spot .inside) z) w in
       let R = path-reaches v p (parts p k) (r 3) (r 4) (λ f. z (ap spot f)) in
       let bears = seek-some v p (lastPart (parts p k)) (kids v d) a (E .found) .2 in
-      let gone : (Spelled p (lastPart (parts p k)) q (part 0 j) → ⊥) → (o : Bytes) (os : List Part) → SameNames p o (parts p k) os
+      let gone : (Spelled p (lastPart (parts p k)) q (part 0 j) → ⊥) → (o : Bytes) (os : List Part) → AlikeNames p o (parts p k) os
       → lookup (renamed v a q j) o os ≡ missing d =
       λ off o os N. now-gone q j S (E .spot) (E .alive) proper free R o os on bears N off in
       record {
@@ -202,7 +202,7 @@ module _ (len : ℕ) (v p : Bytes) (k : ℕ) (q : Bytes) (j : ℕ) where
         through = λ o i o′ i′ T.
             let A = reaches-at S R in
             now-through q j S (E .spot) (E .alive) proper free bears o o′ (under (A .0) (A .1) (E .spot .inside)) R T;
-        gone = λ off. gone off p (parts p k) (names-self p (parts p k));
+        gone = λ off. gone off p (parts p k) (alike-self p (parts p k));
         nowhere = λ off o i N. gone off o (parts o i) N;
         elsewhere = still;
       }

@@ -50,15 +50,15 @@ pub data Names (p q : Bytes) (L : Part → Part → Type 0) : List Part → List
   at-last : {x y : Part} → L x y → Names p q L (x ∷ []) (y ∷ [])
   before : {x y x′ y′ : Part} {xs ys : List Part} → Spelled p x q y → Names p q L (x′ ∷ xs) (y′ ∷ ys) → Names p q L (x ∷ x′ ∷ xs) (y ∷ y′ ∷ ys)
 
--- All of them are the same.
-pub data SameNames (p q : Bytes) : List Part → List Part → Type 0 where
-  none-left : SameNames p q [] []
-  one-more : {x y : Part} {xs ys : List Part} → Spelled p x q y → SameNames p q xs ys → SameNames p q (x ∷ xs) (y ∷ ys)
+-- All names of two paths are the same as capitals.
+pub data AlikeNames (p q : Bytes) : List Part → List Part → Type 0 where
+  none-left : AlikeNames p q [] []
+  one-more : {x y : Part} {xs ys : List Part} → Spelled p x q y → AlikeNames p q xs ys → AlikeNames p q (x ∷ xs) (y ∷ ys)
 
-pub names-self : (p : Bytes) (xs : List Part) → SameNames p p xs xs
-names-self p [] = none-left
-names-self p (x ∷ xs) = one-more (spelled-self p x) (names-self p xs)
+pub alike-self : (p : Bytes) (xs : List Part) → AlikeNames p p xs xs
+alike-self p [] = none-left
+alike-self p (x ∷ xs) = one-more (spelled-self p x) (alike-self p xs)
 
-pub same-names : {p q : Bytes} {x : Part} {xs ys : List Part} → SameNames p q (x ∷ xs) ys → Names p q (λ x y. Spelled p x q y) (x ∷ xs) ys
-same-names {xs = []} (one-more E none-left) = at-last E
-same-names {xs = u ∷ us} (one-more E (one-more F N)) = before E (same-names (one-more F N))
+pub alike-names : {p q : Bytes} {x : Part} {xs ys : List Part} → AlikeNames p q (x ∷ xs) ys → Names p q (λ x y. Spelled p x q y) (x ∷ xs) ys
+alike-names {xs = []} (one-more E none-left) = at-last E
+alike-names {xs = u ∷ us} (one-more E (one-more F N)) = before E (alike-names (one-more F N))

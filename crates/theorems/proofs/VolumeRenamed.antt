@@ -18,12 +18,12 @@ use Rattle.model.proofs.Laws.Spelling.{Bears, same-bears, bears-same}
 use Rattle.model.proofs.Laws.Lookup.{rows-off, not-false}
 use Rattle.model.proofs.Laws.Rename.{after-bears, after-name, after-keeps, whole}
 use Rattle.model.proofs.Laws.Settled.{done-image}
-use Rattle.theorems.proofs.Spelled.{Spelled, spelled-sym, spelled-bears, bears-spelled, SameNames}
+use Rattle.theorems.proofs.Spelled.{Spelled, spelled-sym, spelled-bears, bears-spelled, AlikeNames}
 use Rattle.theorems.proofs.Below.{Still, along-same}
 
 -- The first name of a path is the name z of q, the others are those of another path.
 pub data FirstNamed (p o q : Bytes) (z : Part) : List Part → List Part → Type 0 where
-  first-named : {x y : Part} {xs ys : List Part} → Spelled o y q z → SameNames p o xs ys → FirstNamed p o q z (x ∷ xs) (y ∷ ys)
+  first-named : {x y : Part} {xs ys : List Part} → Spelled o y q z → AlikeNames p o xs ys → FirstNamed p o q z (x ∷ xs) (y ∷ ys)
 
 -- What an accepted rename of the volume to the name q of j bytes does to every path.
 pub record VolumeRenamed (v q : Bytes) (j : ℕ) (w : Bytes) : Type 0 where

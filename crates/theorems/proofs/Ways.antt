@@ -14,7 +14,7 @@ use Rattle.model.proofs.Laws.Sound.{Sound}
 use Rattle.model.proofs.Laws.Facts.{Seen, kid-seen, kid-proper, one-parent, volume-seen, volume-directory}
 use Rattle.model.proofs.Laws.Lookup.{directory-is, seek-some}
 use Rattle.paths.proofs.PathLaws.{seek-one}
-use Rattle.theorems.proofs.Spelled.{Spelled, SameNames, Names, same-names}
+use Rattle.theorems.proofs.Spelled.{Spelled, AlikeNames, Names, alike-names}
 
 -- A slot k steps below the volume.
 pub data At (v : Bytes) : ℕ → ℕ → Type 0 where
@@ -136,9 +136,9 @@ reaches-found {p = p} {d = d} {y} S R s c f m =
     let A = reaches-at S R in
     reaches-lookup S R ∙ rw (seek-one S p y d s (at-seen S (A .0)) c f m) (unfold last in refl)
 
-pub reaches-names : {v p q : Bytes} {ps qs : List Part} {d : ℕ} {y : Part} → Reaches v p ps d y → SameNames p q ps qs
+pub reaches-names : {v p q : Bytes} {ps qs : List Part} {d : ℕ} {y : Part} → Reaches v p ps d y → AlikeNames p q ps qs
     → Names p q (λ x y. Spelled p x q y) ps qs
-reaches-names (reached m L) N = same-names N
+reaches-names (reached m L) N = alike-names N
 
 -- a target whose kind is known
 pub is-there : (t : Target) → isNoVolume t ≡ false → isNoDirectory t ≡ false → isMissing t ≡ false → t ≡ there (home t) (spot t)

@@ -4,7 +4,7 @@ use lib.ListN.{length}
 use Rattle.model.specs.Bytes.{view}
 use Rattle.model.specs.Answers.{Does}
 use Rattle.model.specs.Create.{create}
-use Rattle.changes.proofs.ChangeLaws.{text-as}
+use Rattle.changes.proofs.ChangeLaws.{stamped-as}
 use borrow.Author.Needs.{needs}
 use Rattle.changes.proofs.create.Statement.{statement}
 use Rattle.changes.proofs.create.Tie as tie
@@ -54,7 +54,7 @@ returns c =
     let n = length (a .img .now) in
     let v = view (a .img .now) in
     let vs = a .values .now in
-    text-as (λ b k s. Does (create n v b k (record { kind = view vs 1; ftype = view vs 2; aux = view vs 3; stamp = s })) n (c .before .before .create .result) (c .before .before .create .last .0)) vs (a .room .now) 4 (omega arith) (c .before .before .before .before .before .stamp-of .ensures) (c .before .before .create .ensures)
+    stamped-as (λ b k s. Does (create n v b k (record { kind = view vs 1; ftype = view vs 2; aux = view vs 3; stamp = s })) n (c .before .before .create .result) (c .before .before .create .last .0)) vs (a .room .now) 4 (omega arith) (c .before .before .before .before .before .stamp-of .ensures) (c .before .before .create .ensures)
 
 pub create-spec : {M : Type 1} → statement M
 create-spec =

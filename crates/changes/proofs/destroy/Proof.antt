@@ -4,7 +4,7 @@ use lib.ListN.{length}
 use Rattle.model.specs.Bytes.{view}
 use Rattle.model.specs.Answers.{Does}
 use Rattle.model.specs.Destroy.{destroy}
-use Rattle.commands.proofs.SceneLaws.{part-as}
+use Rattle.lines.proofs.PartLaws.{part-as}
 use borrow.Author.Needs.{needs}
 use Rattle.changes.proofs.destroy.Statement.{statement}
 use Rattle.changes.proofs.destroy.Tie as tie

@@ -4,7 +4,7 @@ use lib.ListN.{length}
 use Rattle.model.specs.Bytes.{view}
 use Rattle.model.specs.Answers.{Does}
 use Rattle.model.specs.Format.{format}
-use Rattle.changes.proofs.ChangeLaws.{text-as}
+use Rattle.changes.proofs.ChangeLaws.{stamped-as}
 use borrow.Author.Needs.{needs}
 use Rattle.changes.proofs.format.Statement.{statement}
 use Rattle.changes.proofs.format.Tie as tie
@@ -36,7 +36,7 @@ returns c =
     let n = length (a .img .now) in
     let v = view (a .img .now) in
     let vs = a .values .now in
-    text-as (λ b k s. Does (format n v b k s) n (c .before .before .format .result) (c .before .before .format .last .0)) vs (a .room .now) 1 (omega arith) (c .before .before .before .before .before .stamp-of .ensures) (c .before .before .format .ensures)
+    stamped-as (λ b k s. Does (format n v b k s) n (c .before .before .format .result) (c .before .before .format .last .0)) vs (a .room .now) 1 (omega arith) (c .before .before .before .before .before .stamp-of .ensures) (c .before .before .format .ensures)
 
 pub format-spec : {M : Type 1} → statement M
 format-spec =

@@ -6,8 +6,8 @@ use lib.ListN.{length, take, drop}
 use Rattle.model.specs.Bytes.{view}
 use Rattle.model.specs.Answers.{Does}
 use Rattle.model.specs.Rename.{rename}
-use Rattle.commands.specs.Scenes.{cut}
-use Rattle.commands.proofs.SceneLaws.{part-as}
+use Rattle.lines.specs.Commands.{cut}
+use Rattle.lines.proofs.PartLaws.{part-as}
 use borrow.Author.Needs.{needs}
 use Rattle.changes.proofs.rename.Statement.{statement}
 use Rattle.changes.proofs.rename.Tie as tie

@@ -4,7 +4,7 @@ use lib.ListN.{length}
 use Rattle.model.specs.Bytes.{view}
 use Rattle.model.specs.Answers.{Does}
 use Rattle.model.specs.SetEof.{setEof}
-use Rattle.changes.proofs.ChangeLaws.{text-as}
+use Rattle.changes.proofs.ChangeLaws.{stamped-as}
 use borrow.Author.Needs.{needs}
 use Rattle.changes.proofs.set_eof.Statement.{statement}
 use Rattle.changes.proofs.set_eof.Tie as tie
@@ -39,7 +39,7 @@ returns c =
     let n = length (a .img .now) in
     let v = view (a .img .now) in
     let vs = a .values .now in
-    text-as (λ b k s. Does (setEof n v b k (view vs 1) s) n (c .before .before .set-eof .result) (c .before .before .set-eof .last .0)) vs (a .room .now) 2 (omega arith) (c .before .before .before .before .before .stamp-of .ensures) (c .before .before .set-eof .ensures)
+    stamped-as (λ b k s. Does (setEof n v b k (view vs 1) s) n (c .before .before .set-eof .result) (c .before .before .set-eof .last .0)) vs (a .room .now) 2 (omega arith) (c .before .before .before .before .before .stamp-of .ensures) (c .before .before .set-eof .ensures)
 
 pub set-eof-spec : {M : Type 1} → statement M
 set-eof-spec =

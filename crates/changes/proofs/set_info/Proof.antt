@@ -4,7 +4,7 @@ use lib.ListN.{length}
 use Rattle.model.specs.Bytes.{view}
 use Rattle.model.specs.Answers.{Does}
 use Rattle.model.specs.Info.{setInfo}
-use Rattle.changes.proofs.ChangeLaws.{text-as}
+use Rattle.changes.proofs.ChangeLaws.{stamped-as}
 use borrow.Author.Needs.{needs}
 use Rattle.changes.proofs.set_info.Statement.{statement}
 use Rattle.changes.proofs.set_info.Tie as tie
@@ -48,7 +48,7 @@ returns c =
     let n = length (a .img .now) in
     let v = view (a .img .now) in
     let vs = a .values .now in
-    text-as (λ b k s. Does (setInfo n v b k (view vs 1) (view vs 2) s) n (c .before .before .set-info .result) (c .before .before .set-info .last .0)) vs (a .room .now) 3 (omega arith) (c .before .before .before .before .before .stamp-of .ensures) (c .before .before .set-info .ensures)
+    stamped-as (λ b k s. Does (setInfo n v b k (view vs 1) (view vs 2) s) n (c .before .before .set-info .result) (c .before .before .set-info .last .0)) vs (a .room .now) 3 (omega arith) (c .before .before .before .before .before .stamp-of .ensures) (c .before .before .set-info .ensures)
 
 pub set-info-spec : {M : Type 1} → statement M
 set-info-spec =

@@ -5,11 +5,10 @@ use lib.ListN.{length, take, drop}
 use Rattle.model.specs.Bytes.{view}
 use Rattle.model.specs.Answers.{Writes}
 use Rattle.model.specs.Write.{write}
-use Rattle.commands.specs.Scenes.{cut}
-use Rattle.changes.specs.Acts.{held}
+use Rattle.lines.specs.Commands.{cut, held}
 use Rattle.changes.specs.Changes.{stampOf}
-use Rattle.commands.proofs.SceneLaws.{part-as}
-use Rattle.changes.proofs.ChangeLaws.{text-as}
+use Rattle.lines.proofs.PartLaws.{part-as}
+use Rattle.changes.proofs.ChangeLaws.{stamped-as}
 use borrow.Author.Needs.{needs}
 use Rattle.changes.proofs.write.Statement.{statement}
 use Rattle.changes.proofs.write.Tie as tie
@@ -61,7 +60,7 @@ returns c =
     let k = view vs 4 in
     let bytes = take (k - 0) (drop 0 bs) in
     part-as (λ b i. Writes (write n v (cut (view ts) 0 (view vs 0)) (view vs 0) (view vs 1) b i (stampOf (held vs ts bs) 2)) n (c .before .before .write .result) (c .before .before .write .last .0)) bs 0 k k (omega arith) (omega arith)
-    (text-as (λ b i s. Writes (write n v b i (view vs 1) (view bytes) (length bytes) s) n (c .before .before .write .result) (c .before .before .write .last .0)) vs ts 2 (omega arith) (c .before .before .before .before .before .before .stamp-of .ensures) (c .before .before .write .ensures))
+    (stamped-as (λ b i s. Writes (write n v b i (view vs 1) (view bytes) (length bytes) s) n (c .before .before .write .result) (c .before .before .write .last .0)) vs ts 2 (omega arith) (c .before .before .before .before .before .before .stamp-of .ensures) (c .before .before .write .ensures))
 
 pub write-spec : {M : Type 1} → statement M
 write-spec =

@@ -1,68 +1,18 @@
--- `store::clear_run` meets its contract. The first i bytes are 0 after i turns. Assumes nothing.
-use mathlib.Core.Path.{_≡_, refl, sym, ap, _∙_}
-use Prim.Native.Nat.{_+_, _-_, _≤_}
-use native.Mathlib.Omega.{arith}
-use lib.ListN.{length, length-set}
+-- `store::clear_run` meets its contract: a run of zeros. Assumes nothing.
 use borrow.Author.Needs.{needs}
-use Rattle.model.specs.Bytes.{view, put, paste, zeros, clear}
-use Rattle.model.proofs.ByteLaws.{view-set, paste-none, paste-more}
+use Rattle.model.specs.Bytes.{clear}
 use Rattle.store.proofs.clear_run.Statement.{statement}
 use Rattle.store.proofs.clear_run.Tie as tie
 
-abbrev Inv-loop : tie.InvT-loop
-Inv-loop dst₀ to k i₀ dst i = (i ≤ k) × (length dst ≡ length dst₀) × (view dst ≡ paste (view dst₀) to i zeros)
+fill-run-requires : tie.Need-fill-run-requires
+fill-run-requires c κs = search needs
 
-abbrev μ-loop : tie.MeasureT-loop
-μ-loop dst₀ to k i₀ dst i = k - i
-
-loop-holds : tie.Need-loop-holds Inv-loop μ-loop
-loop-holds c = (search needs, refl, sym (paste-none _ _ _))
-
-add-dst : tie.Need-add-dst Inv-loop μ-loop
-add-dst c = search needs
-
-slice-write-dst : tie.Need-slice-write-dst Inv-loop μ-loop
-slice-write-dst c = search needs
-
-add-cleared : tie.Need-add-cleared Inv-loop μ-loop
-add-cleared c = search needs
-
-loop-less : tie.Need-loop-less Inv-loop μ-loop
-loop-less c = search needs
-
-loop-again : tie.Need-loop-again Inv-loop μ-loop
-loop-again c =
-    let l = c .before .loop in
-    let a = c .before .before .args in (
-      search needs,
-      simp length-set (omega arith),
-      view-set (l .dst) (a .to + l .cleared) 0 (omega arith)
-          ∙ ap (λ f. put f (a .to + l .cleared) 0) (l .inv .2)
-          ∙ paste-more (view (a .dst .now)) (a .to) zeros (l .cleared),
-    )
-
-same-length : tie.Need-same-length Inv-loop μ-loop
+same-length : tie.Need-same-length
 same-length c = search needs
 
-returns : tie.Need-returns Inv-loop μ-loop
+returns : tie.Need-returns
 unfolding clear
-returns c =
-    let l = c .before .loop in
-    let a = c .before .before .args in
-    let e : l .cleared ≡ a .k = omega arith in
-    l .inv .2 ∙ ap (λ k. paste (view (a .dst .now)) (a .to) k zeros) e
+returns c = c .before .before .fill-run .ensures
 
 pub clear-run-spec : {M : Type 1} → statement M
-clear-run-spec =
-    tie.close
-    (tie.spec
-    Inv-loop
-    μ-loop
-    loop-holds
-    add-dst
-    slice-write-dst
-    add-cleared
-    loop-less
-    loop-again
-    same-length
-    returns)
+clear-run-spec = tie.close (tie.spec fill-run-requires same-length returns)

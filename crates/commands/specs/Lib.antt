@@ -1,3 +1,0 @@
--- The definitions of commands: what a command of a script does.
-pub mod Scenes
-pub mod Commands
