@@ -7,12 +7,13 @@ use Prim.Native.Nat.{ℕ, zero, suc, _+_, _-_, _*_, _≤_, _<_}
 use native.Mathlib.Numerals.{add-one}
 use native.Mathlib.Omega.{arith}
 use lib.Dec.{eqb}
-use lib.ListN.{length, take, drop, set}
+use lib.ListN.{length, take, drop, set, length-drop}
 use lib.Seq.{take-suc-set, take-set-le}
 use Rattle.model.specs.Bytes.{Bytes, run, sum, one-if, _and_}
-use Rattle.model.specs.Directory.{sort, isActive, at, next, chain, slots}
+use Rattle.model.specs.Directory.{Sort, inactive, directory, improper, file, live, active, sort, isActive, at, next, chain, slots}
 use Rattle.model.specs.Sound.{twinsOf, twins}
-use Rattle.order.specs.Order.{Stored, alone, noTwins}
+use Rattle.model.proofs.Laws.Frame.{chain-length, slots-length}
+use Rattle.twins.specs.Twins.{Stored, alone, noTwins}
 use Rattle.checks.specs.Inside.{Inside, ahead, actives}
 use Rattle.checks.proofs.Laws.{none-in, run-step, run-end, slot-in, no-slots}
 
@@ -124,3 +125,23 @@ module _ (v : Bytes) (n : ℕ) where
       let l : b < n = h .0 in
       rw (actives-append v (run (suc (b * 13)) 12) (slots bs))
       (stored-append (n * 512) (actives v (run (suc (b * 13)) 12)) (actives v (slots bs)) (run-stored (suc (b * 13)) 12 (omega arith)) (slots-stored bs (h .1)))
+
+-- A directory's active entries are few enough to be counted in 32 bits.
+pub few-active : (v : Bytes) (key used : ℕ) → used ≤ 65535 → active v (drop 1 (slots (chain v key used))) ≤ 1000000
+unfolding sum
+few-active v key used h =
+    let m = active-most v (drop 1 (slots (chain v key used))) in
+    let n = length-drop 1 (slots (chain v key used)) in
+    let o = slots-length (chain v key used) in
+    let p = chain-length v key used in
+    omega arith
+  where
+    live-most : (t : Sort) → live t ≤ 1
+    live-most inactive = omega arith
+    live-most directory = omega arith
+    live-most improper = omega arith
+    live-most (file h) = omega arith
+
+    active-most : (v : Bytes) (ss : List ℕ) → active v ss ≤ length ss
+    active-most v [] = omega arith
+    active-most v (s ∷ ss) = let h = active-most v ss in let l = live-most (sort v s) in omega arith

@@ -355,9 +355,8 @@ fn gather_entries(img: &[u8], n: usize, key: usize, used: usize, list: &mut [u32
     gather_in_blocks(img, n, next_of(img, key), used - 1, list, count)
 }
 
-// No two active entries of a directory of `used` blocks have one name: they are put in order. The last three are scratch.
-// Each with each is the last resort: the order is right, so that it is never reached.
-fn unlike_by_order(
+// No two active entries of a directory of `used` blocks have one name: they are put into a tree. The last three are scratch.
+fn unlike_by_tree(
     img: &[u8],
     n: usize,
     key: usize,
@@ -366,7 +365,7 @@ fn unlike_by_order(
     x: &mut [u32],
     y: &mut [u32],
 ) -> bool
-    requires { ⌜ Readable n (now img) × Inside n (chain (view (now img)) key used) ⌝ }
+    requires { ⌜ Readable n (now img) × Inside n (chain (view (now img)) key used) × (used ≤ 65535) ⌝ }
     requires { ⌜ active (view (now img)) (drop 1 (slots (chain (view (now img)) key used))) < length (now list) ⌝ }
     requires { ⌜ active (view (now img)) (drop 1 (slots (chain (view (now img)) key used))) < length (now x) ⌝ }
     requires { ⌜ active (view (now img)) (drop 1 (slots (chain (view (now img)) key used))) < length (now y) ⌝ }
@@ -376,17 +375,10 @@ fn unlike_by_order(
         return true;
     }
     let count = gather_entries(img, n, key, used, list);
-    let verdict = order::verdict(img, &list[0..count], x, y);
-    if verdict == 0 {
-        return true;
-    }
-    if verdict == 1 {
-        return false;
-    }
-    each_with_each(img, n, key, used)
+    twins::no_twins(img, &list[0..count], x, y)
 }
 
-// No two active entries of a directory of `used` blocks have one name. In a few blocks each is compared with each, in more they are put in order.
+// No two active entries of a directory of `used` blocks have one name. In a few blocks each is compared with each, in more they are put into a tree.
 // The last three are scratch, each with a place more than there are entries: where one is shorter, each is compared with each again.
 pub fn unlike(
     img: &[u8],
@@ -411,7 +403,7 @@ pub fn unlike(
     if count < list.len() {
         if count < x.len() {
             if count < y.len() {
-                return unlike_by_order(img, n, key, used, list, x, y);
+                return unlike_by_tree(img, n, key, used, list, x, y);
             }
         }
     }

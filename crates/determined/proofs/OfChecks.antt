@@ -1,6 +1,8 @@
--- Equal results of the public functions of checks.
+-- Equal results of the public functions of twins and checks.
 use mathlib.Core.Path.{_≡_, refl, sym, _∙_}
 use Rattle.determined.proofs.Determined.{Determined, Nothing-seen, none-seen}
+use Rattle.twins.proofs.no_twins.Reads as no-twins-reads
+use Rattle.twins.proofs.no_twins.Kinds as no-twins-kinds
 use Rattle.checks.proofs.address.Reads as address-reads
 use Rattle.checks.proofs.address.Kinds as address-kinds
 use Rattle.checks.proofs.name_right.Reads as name-right-reads
@@ -15,6 +17,9 @@ use Rattle.checks.proofs.count_active.Reads as count-active-reads
 use Rattle.checks.proofs.count_active.Kinds as count-active-kinds
 use Rattle.checks.proofs.unlike.Reads as unlike-reads
 use Rattle.checks.proofs.unlike.Kinds as unlike-kinds
+
+pub no-twins-one : Determined _ no-twins-kinds.ps no-twins-kinds.r no-twins-reads.Post Nothing-seen (λ _ _ _. none-seen)
+no-twins-one κs a r₁ r₂ w₁ w₂ p q = (p ∙ sym q, refl)
 
 pub address-one : Determined _ address-kinds.ps address-kinds.r address-reads.Post Nothing-seen (λ _ _ _. none-seen)
 address-one κs a r₁ r₂ w₁ w₂ p q = (p ∙ sym q, refl)

@@ -19,8 +19,8 @@ returns-2 c = search needs
 count-active-requires : tie.Need-count-active-requires
 count-active-requires c κs = search needs
 
-unlike-by-order-requires : tie.Need-unlike-by-order-requires
-unlike-by-order-requires c κs = (search needs, (omega arith, (omega arith, omega arith)))
+unlike-by-tree-requires : tie.Need-unlike-by-tree-requires
+unlike-by-tree-requires c κs = ((search needs), (omega arith, (omega arith, omega arith)))
 
 same-length : tie.Need-same-length
 same-length c = search needs
@@ -49,7 +49,7 @@ unlike-spec =
     each-with-each-requires-2
     returns-2
     count-active-requires
-    unlike-by-order-requires
+    unlike-by-tree-requires
     same-length
     same-length-2
     same-length-3

@@ -1,0 +1,3 @@
+-- The laws of twins.
+pub mod NameLaws
+pub mod TreeLaws

@@ -1,0 +1,31 @@
+-- `twins::bit_at` meets its contract: a bit of the name at a place. Assumes nothing.
+use borrow.Author.Needs.{needs}
+use Rattle.twins.proofs.bit_at.Statement.{statement}
+use Rattle.twins.proofs.bit_at.Tie as tie
+
+mul-index : tie.Need-mul-index
+mul-index c = search needs
+
+shared-slice-read-index : tie.Need-shared-slice-read-index
+shared-slice-read-index c = search needs
+
+index-requires : tie.Need-index-requires
+index-requires c κs = search needs
+
+bit-requires : tie.Need-bit-requires
+bit-requires c κs =
+    let s = c .before .before .before .before in
+    rw (c .index .ensures) (s .pre .0 .1 (s .args .p) (s .pre .0 .0), s .pre .1)
+
+returns : tie.Need-returns
+returns c = rw (c .before .index .ensures) at (c .bit .ensures)
+
+pub bit-at-spec : {M : Type 1} → statement M
+bit-at-spec =
+    tie.close
+    (tie.spec
+    mul-index
+    shared-slice-read-index
+    index-requires
+    bit-requires
+    returns)
