@@ -87,13 +87,13 @@ module _ (v : Bytes) where
       → actives v (ahead v s b after) ≡ actives v (run s (b * 13 + 13 - s)) ++ actives v (slots (chain v (next v b) after))
   actives-ahead s b after = actives-append (run s (b * 13 + 13 - s)) (slots (chain v (next v b) after))
 
--- Their names lie in the image.
+-- Their slots lie in the image.
 stored-append : (z : ℕ) (xs ys : List ℕ) → Stored z xs → Stored z ys → Stored z (xs ++ ys)
 stored-append z [] ys h t i l = t i l
 stored-append z (x ∷ xs) ys h t zero l = h 0 (omega arith)
 stored-append z (x ∷ xs) ys h t (suc i) l = stored-append z xs ys (λ j m. h (suc j) (omega arith)) t i (omega arith)
 
-stored-cons : (z x : ℕ) (xs : List ℕ) → x + 16 ≤ z → Stored z xs → Stored z (x ∷ xs)
+stored-cons : (z x : ℕ) (xs : List ℕ) → x + 39 ≤ z → Stored z xs → Stored z (x ∷ xs)
 stored-cons z x xs h t zero l = h
 stored-cons z x xs h t (suc i) l = t i (omega arith)
 

@@ -6,7 +6,7 @@ ghost use lib.Dec.{eqb};
 ghost use mathlib.Core.List.{_++_};
 ghost use lib.ListN.{length, take, drop};
 ghost use Rattle.model.specs.Bytes.{view, run, _and_};
-ghost use Rattle.model.specs.Names.{capitalName, alike};
+ghost use Rattle.model.specs.Names.{capitalName};
 ghost use Rattle.model.specs.Directory.{at, blockOf, slotOf, next, headerKind, headerSlotSize, headerSlots, parentBlock, parentSlot, parentSlotSize, sort, isActive, active, chain, slots};
 ghost use Rattle.model.specs.Sound.{prodos, volumeFaults, headerFaults, twins, twinsOf};
 ghost use Rattle.checks.specs.Inside.{Inside, Readable, ahead, actives};
@@ -31,14 +31,6 @@ pub fn address(place: usize) -> usize
     ensures { λ r. ⌜ r ≡ at place ⌝ }
 {
     place / SLOTS * BLOCK + 4 + SLOT_SIZE * (place % SLOTS)
-}
-
-// Two slots, by address, store the same name.
-fn alike_at(img: &[u8], a: usize, b: usize) -> bool
-    requires { ⌜ (a + 39 ≤ length (now img)) × (b + 39 ≤ length (now img)) ⌝ }
-    ensures { λ r. ⌜ r ≡ alike (view (now (img .entry))) a b ⌝ }
-{
-    names::alike(&img[a..a + 39], &img[b..b + 39])
 }
 
 // The name stored at a place is proper and in capitals.
@@ -129,7 +121,7 @@ pub fn header_right(img: &[u8], n: usize, place: usize, key: usize) -> bool
     if !points_at(img, place, key) {
         return false;
     }
-    alike_at(img, key * BLOCK + 4, address(place))
+    twins::alike_at(img, key * BLOCK + 4, address(place))
 }
 
 fn is_active(img: &[u8], n: usize, place: usize) -> bool
@@ -196,7 +188,7 @@ fn alone_between(img: &[u8], n: usize, place: usize, start: usize, end: usize) -
     let mut other = start;
     while other < end {
         if is_active(img, n, other) {
-            if alike_at(img, name, address(other)) {
+            if twins::alike_at(img, name, address(other)) {
                 return false;
             }
         }

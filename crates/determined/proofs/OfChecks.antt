@@ -1,6 +1,8 @@
 -- Equal results of the public functions of twins and checks.
 use mathlib.Core.Path.{_≡_, refl, sym, _∙_}
 use Rattle.determined.proofs.Determined.{Determined, Nothing-seen, none-seen}
+use Rattle.twins.proofs.alike_at.Reads as alike-at-reads
+use Rattle.twins.proofs.alike_at.Kinds as alike-at-kinds
 use Rattle.twins.proofs.no_twins.Reads as no-twins-reads
 use Rattle.twins.proofs.no_twins.Kinds as no-twins-kinds
 use Rattle.checks.proofs.address.Reads as address-reads
@@ -17,6 +19,9 @@ use Rattle.checks.proofs.count_active.Reads as count-active-reads
 use Rattle.checks.proofs.count_active.Kinds as count-active-kinds
 use Rattle.checks.proofs.unlike.Reads as unlike-reads
 use Rattle.checks.proofs.unlike.Kinds as unlike-kinds
+
+pub alike-at-one : Determined _ alike-at-kinds.ps alike-at-kinds.r alike-at-reads.Post Nothing-seen (λ _ _ _. none-seen)
+alike-at-one κs a r₁ r₂ w₁ w₂ p q = (p ∙ sym q, refl)
 
 pub no-twins-one : Determined _ no-twins-kinds.ps no-twins-kinds.r no-twins-reads.Post Nothing-seen (λ _ _ _. none-seen)
 no-twins-one κs a r₁ r₂ w₁ w₂ p q = (p ∙ sym q, refl)

@@ -9,9 +9,9 @@ use Rattle.model.specs.Bytes.{Bytes, put, from, _and_}
 use Rattle.model.specs.Names.{alike}
 use Rattle.twins.specs.declared.Spot.{Spot}
 
--- each slot's name lies in an image of n bytes
+-- each slot lies in an image of n bytes
 abbrev pub Stored : ℕ → List ℕ → Type 0
-Stored n xs = (i : ℕ) → i < length xs → getD xs i 0 + 16 ≤ n
+Stored n xs = (i : ℕ) → i < length xs → getD xs i 0 + 39 ≤ n
 
 -- the name at a is none of those at the others; no two of all are alike
 unfoldable pub alone : Bytes → ℕ → List ℕ → Bool

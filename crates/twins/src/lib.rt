@@ -27,21 +27,26 @@ fn index(x: u32) -> usize
     x as usize
 }
 
+// Two slots, by address, store the same name.
+pub fn alike_at(img: &[u8], a: usize, b: usize) -> bool
+    requires { ⌜ (a + 39 ≤ length (now img)) × (b + 39 ≤ length (now img)) ⌝ }
+    ensures { λ r. ⌜ r ≡ alike (view (now (img .entry))) a b ⌝ }
+{
+    names::alike(&img[a..a + 39], &img[b..b + 39])
+}
+
+// The same, sooner where the last bytes differ, as in names that are made in a row.
 fn same_name(img: &[u8], a: usize, b: usize) -> bool
-    requires { ⌜ (a + 16 ≤ length (now img)) × (b + 16 ≤ length (now img)) ⌝ }
+    requires { ⌜ (a + 39 ≤ length (now img)) × (b + 39 ≤ length (now img)) ⌝ }
     ensures { λ r. ⌜ r ≡ alike (view (now (img .entry))) a b ⌝ }
 {
     let size = wide(img[a] % 16);
-    if size != wide(img[b] % 16) {
-        return false;
-    }
-    // Names that are made in a row differ in their last byte.
     if 0 < size {
         if img[a + size] != img[b + size] {
             return false;
         }
     }
-    store::same_bytes(img, a + 1, img, b + 1, size)
+    alike_at(img, a, b)
 }
 
 // The length, then the name's bytes, then zeros.

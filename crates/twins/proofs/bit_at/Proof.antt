@@ -1,4 +1,5 @@
 -- `twins::bit_at` meets its contract: a bit of the name at a place. Assumes nothing.
+use native.Mathlib.Omega.{arith}
 use borrow.Author.Needs.{needs}
 use Rattle.twins.proofs.bit_at.Statement.{statement}
 use Rattle.twins.proofs.bit_at.Tie as tie
@@ -15,7 +16,8 @@ index-requires c κs = search needs
 bit-requires : tie.Need-bit-requires
 bit-requires c κs =
     let s = c .before .before .before .before in
-    rw (c .index .ensures) (s .pre .0 .1 (s .args .p) (s .pre .0 .0), s .pre .1)
+    let h = s .pre .0 .1 (s .args .p) (s .pre .0 .0) in
+    rw (c .index .ensures) (omega (arith, h), s .pre .1)
 
 returns : tie.Need-returns
 returns c = rw (c .before .index .ensures) at (c .bit .ensures)

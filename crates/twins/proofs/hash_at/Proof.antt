@@ -1,4 +1,5 @@
 -- `twins::hash_at` meets its contract: the hash of the name at a place. Assumes nothing.
+use native.Mathlib.Omega.{arith}
 use borrow.Author.Needs.{needs}
 use Rattle.twins.proofs.hash_at.Statement.{statement}
 use Rattle.twins.proofs.hash_at.Tie as tie
@@ -15,7 +16,8 @@ index-requires c κs = search needs
 hash-requires : tie.Need-hash-requires
 hash-requires c κs =
     let s = c .before .before .before .before in
-    rw (c .index .ensures) (s .pre .1 (s .args .p) (s .pre .0))
+    let h = s .pre .1 (s .args .p) (s .pre .0) in
+    rw (c .index .ensures) (omega (arith, h))
 
 returns : tie.Need-returns
 returns c = rw (c .before .index .ensures) at (c .hash .ensures)

@@ -1,12 +1,12 @@
--- `checks::alike_at` meets its contract. The two parts of 39 bytes have the names that stand at a and b. Assumes nothing.
+-- `twins::alike_at` meets its contract. The two parts of 39 bytes have the names that stand at a and b. Assumes nothing.
 use mathlib.Core.Path.{_∙_}
 use Prim.Native.Nat.{_+_, _-_}
 use native.Mathlib.Omega.{arith}
 use Rattle.model.specs.Bytes.{view}
 use Rattle.names.proofs.PartLaws.{part-run, slots-alike}
 use borrow.Author.Needs.{needs}
-use Rattle.checks.proofs.alike_at.Statement.{statement}
-use Rattle.checks.proofs.alike_at.Tie as tie
+use Rattle.twins.proofs.alike_at.Statement.{statement}
+use Rattle.twins.proofs.alike_at.Tie as tie
 
 add-alike : tie.Need-add-alike
 add-alike c = search needs
