@@ -1,7 +1,6 @@
 -- The commands of a script that change the image, as docs/REPLAY.md has them: each with its fields f, on an image v of n bytes and with a
 -- buffer of m bytes.
 use Prim.Native.Nat.{ℕ, _+_}
-use mathlib.Core.Path.{_≡_}
 use mathlib.Core.List.{List, [], _∷_}
 use mathlib.Core.Bool.{true, false}
 use lib.Dec.{leb}
@@ -16,14 +15,12 @@ use Rattle.model.specs.Info.{setInfo}
 use Rattle.model.specs.SetEof.{setEof}
 use Rattle.model.specs.Write.{write}
 use Rattle.model.specs.declared.Stamp.{Stamp}
-use Rattle.ink.specs.Ink.{Sheet, sheet, Prints}
 use Rattle.script.specs.Fields.{Fields, textMost}
 use Rattle.replies.specs.Lines.{okLine, reply, number}
 use Rattle.lines.specs.declared.Call.{Call}
 use Rattle.lines.specs.declared.Call.the-variants as call
 use Rattle.lines.specs.declared.Change.{Change}
 use Rattle.lines.specs.declared.Change.the-variants as change
-use Rattle.lines.specs.declared.Said.{Said}
 use Rattle.lines.specs.Commands.{cut, firstText}
 use Rattle.lines.specs.Left.{Left, badLeft}
 
@@ -100,8 +97,3 @@ changed change.Write n v m f = moved (written n v f (f .buffer)) (f .buffer)
 changed change.Fill n v m f = filled n v m f
 changed change.Set n v m f = laidIn n v f (f .buffer)
 changed change.SetRun n v m f = laidIn n v f (same (f .values 2))
-
--- A call was done or refused, or bytes were transferred, and it is said on the page s.
-pub record Told (text : List ℕ) (s : Sheet) (r : Said) (p : List ℕ) : Type 0 where
-  pub good : r .good ≡ true
-  pub page : Prints text s (sheet (r .ink) p)

@@ -1,5 +1,6 @@
 // The commands of a script that change the image: the calls that change the volume, and raw bytes. Their fields have been read.
 ghost use mathlib.Core.Path.{_≡_};
+ghost use mathlib.Core.Bool.{true};
 ghost use mathlib.Core.List.{List, [], _∷_};
 ghost use Prim.Native.Nat.{ℕ, _+_, _≤_, _<_};
 ghost use lib.ListN.{length};
@@ -10,8 +11,8 @@ ghost use Rattle.replies.specs.Lines.{okLine, reply, number};
 ghost use Rattle.lines.specs.declared.Change.the-variants as change;
 ghost use Rattle.lines.specs.declared.Command.the-variants as command;
 ghost use Rattle.lines.specs.Commands.{Fitting, held};
-ghost use Rattle.lines.specs.Left.{Leaves};
-ghost use Rattle.changes.specs.Changes.{formatted, created, destroyed, renamed, informed, ended, called, written, filled, laidIn, changed, Told};
+ghost use Rattle.lines.specs.Left.{Leaves, Says};
+ghost use Rattle.changes.specs.Changes.{formatted, created, destroyed, renamed, informed, ended, called, written, filled, laidIn, changed};
 use ink::Ink;
 use lines::Call;
 use lines::Change;
@@ -121,7 +122,7 @@ fn call(call: Call, img: &mut [u8], values: &[usize; FIELDS], room: &[u8]) -> An
 
 // What a call answered, said on the page.
 fn say_answer(page: &mut [u8], ink: Ink, answer: Answer) -> Said
-    ensures { λ r. ⌜ Told (reply (answerNumber answer) (okLine [] [])) (sheet ink (now (page .entry))) r (now (page .exit)) ⌝ }
+    ensures { λ r. ⌜ Says true (reply (answerNumber answer) (okLine [] [])) (sheet ink (now (page .entry))) r (now (page .exit)) ⌝ }
 {
     Said {
         ink: replies::say_answer(page, ink, answer),
@@ -130,7 +131,7 @@ fn say_answer(page: &mut [u8], ink: Ink, answer: Answer) -> Said
 }
 
 fn say_transfer(page: &mut [u8], ink: Ink, transfer: Transfer) -> Said
-    ensures { λ r. ⌜ Told (reply (transferNumber transfer) (okLine (number ∷ []) (transferred transfer ∷ []))) (sheet ink (now (page .entry))) r (now (page .exit)) ⌝ }
+    ensures { λ r. ⌜ Says true (reply (transferNumber transfer) (okLine (number ∷ []) (transferred transfer ∷ []))) (sheet ink (now (page .entry))) r (now (page .exit)) ⌝ }
 {
     Said {
         ink: replies::say_transfer(page, ink, transfer),

@@ -5,7 +5,7 @@ use mathlib.Core.List.{List, _++_}
 use lib.ListN.{length, getD, take, drop, replicate, length-take, List·getD-eq-default}
 use native.Mathlib.Omega.{arith}
 use Rattle.model.specs.Bytes.{Bytes, view, paste, from, zeros}
-use Rattle.model.proofs.ByteLaws.{paste-by, paste-at, paste-out, paste-cong, view-read, view-part, length-part}
+use Rattle.model.proofs.ByteLaws.{paste-by, paste-at, paste-out, view-read, view-part, length-part}
 use Rattle.lines.specs.Commands.{cut}
 
 -- an array of zeros
@@ -45,10 +45,6 @@ front-back xs ys k h e = let d : k - 0 ≡ k = omega arith in rw d (view-part xs
 
 pub from-start : (f : Bytes) → from f 0 ≡ f
 from-start f = fun-ext (λ i. let e : 0 + i ≡ i = omega arith in ap f e)
-
--- a run put down and cut out again
-pub cut-paste : (f : Bytes) (a k : ℕ) (g : Bytes) → cut (paste f a k g) a k ≡ paste zeros 0 k g
-cut-paste f a k g = paste-cong zeros 0 k (from (paste f a k g) a) g (paste-at f a k g)
 
 -- a list that is all written over
 pub paste-whole : (xs : List ℕ) (g : Bytes) → paste (view xs) 0 (length xs) g ≡ paste zeros 0 (length xs) g

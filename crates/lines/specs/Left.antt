@@ -24,3 +24,8 @@ pub record Leaves (o : Left) (s : Sheet) (r : Said) (i b p : List ℕ) : Type 0 
   pub image : view i ≡ o .image
   pub buffer : view b ≡ o .buffer
   pub page : Prints (o .text) s (sheet (r .ink) p)
+
+-- The same of the page alone: whether the line was good, and a text printed on the page s.
+pub record Says (fine : Bool) (text : List ℕ) (s : Sheet) (r : Said) (p : List ℕ) : Type 0 where
+  pub good : r .good ≡ fine
+  pub page : Prints text s (sheet (r .ink) p)

@@ -1,6 +1,6 @@
 -- What a look leaves, from what it said; and a look by its name. Assumes nothing.
 use Prim.Native.Nat.{ℕ, _+_, _*_, _≤_, _<_}
-use mathlib.Core.Path.{_≡_, refl, sym, subst}
+use mathlib.Core.Path.{_≡_, refl, ap}
 use mathlib.Core.List.{List}
 use mathlib.Core.Bool.{Bool, true, false}
 use borrow.Author.Tests.{le-leb, lt-leb}
@@ -13,8 +13,9 @@ use Rattle.replies.specs.Lines.{bytesLine}
 use Rattle.lines.specs.declared.Look.{Look}
 use Rattle.lines.specs.declared.Said.{Said}
 use Rattle.lines.specs.Commands.{cut}
-use Rattle.lines.specs.Left.{Leaves}
-use Rattle.looks.specs.Looks.{hasBlock, blockLine, saying, Says, looked}
+use Rattle.lines.specs.Left.{Leaves, Says}
+use Rattle.lines.proofs.LeftLaws.{leaves-as}
+use Rattle.looks.specs.Looks.{hasBlock, blockLine, saying, looked}
 
 -- `block`: the image has it not, and has it
 module _ (n : ℕ) (v : Bytes) (b : ℕ) {k : Ink} {p : List ℕ} where
@@ -34,4 +35,4 @@ says-leaves f e h = record { good = h .good; image = refl; buffer = e; page = h 
 -- A look by its name.
 pub looked-by : (n : ℕ) (v : Bytes) (m : ℕ) (f : Fields) {k j : Look} {s : Sheet} {said : Said} {i b p : List ℕ} → k ≡ j → Leaves (looked j n v m f) s said i b p
     → Leaves (looked k n v m f) s said i b p
-looked-by n v m f {s = s} {said = said} {i = i} {b = b} {p = p} e h = subst (λ (k : Look). Leaves (looked k n v m f) s said i b p) (sym e) h
+looked-by n v m f e h = leaves-as (ap (λ (k : Look). looked k n v m f) e) h

@@ -18,7 +18,6 @@ use Rattle.script.specs.Fields.{Fields}
 use Rattle.replies.specs.Lines.{okLine, reply, number, infoForms, infoValues, readLine, digestLine, bytesLine}
 use Rattle.lines.specs.declared.Look.{Look}
 use Rattle.lines.specs.declared.Look.the-variants as look
-use Rattle.lines.specs.declared.Said.{Said}
 use Rattle.lines.specs.Commands.{cut, firstText}
 use Rattle.lines.specs.Left.{Left, badLeft}
 
@@ -86,13 +85,9 @@ foundLine n v (opened.Refused r) = refusedLine (refusalNumber r)
 foundLine n v (opened.Volume x) = okLine placeForms (2 ∷ 1 ∷ 1 ∷ [])
 foundLine n v (opened.Entry x home place entry) = okLine placeForms (place .block ∷ place .slot ∷ blocksRead n v (home .key) (place .block) ∷ [])
 
--- what a command leaves that changes nothing but the page, and that it said so on the page s
+-- what a command leaves that changes nothing but the page
 abbrev pub saying : Bool → List ℕ → Bytes → Fields → Left
 saying good text v f = record { good = good; text = text; image = v; buffer = f .buffer }
-
-pub record Says (fine : Bool) (text : List ℕ) (s : Sheet) (r : Said) (p : List ℕ) : Type 0 where
-  pub good : r .good ≡ fine
-  pub page : Prints text s (sheet (r .ink) p)
 
 -- each command by its name
 unfoldable pub looked : Look → ℕ → Bytes → ℕ → Fields → Left
