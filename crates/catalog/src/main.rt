@@ -1,4 +1,6 @@
 // `catalog`: lists the volume whose image comes on standard input, or the image in each file named by an argument, under its name.
+#![tactic(auto)]
+
 use libc::{STDIN_FILENO, STDOUT_FILENO};
 
 // One byte more than is listed, so that a larger image is seen to be one.

@@ -1,4 +1,6 @@
 // The commands of a script that change the image: the calls that change the volume, and raw bytes. Their fields have been read.
+#![tactic(auto)]
+
 ghost use Rattle.std.specs.Prelude.{◌≡◌, true, List, [], ◌∷◌, ℕ, ◌+◌, ◌≤◌, ◌<◌, length};
 ghost use Rattle.model.specs.Bytes.{view, same};
 ghost use Rattle.model.specs.Answers.{Does, Writes, answer_number, transfer_number, transferred};

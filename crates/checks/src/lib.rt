@@ -1,5 +1,7 @@
 // The tests of a sound volume that claim no block: the headers, the volume directory's links, active entries counted, names compared.
 // A slot is known by its place, 13 to a block; its 39 bytes are lent. Document 01, "A sound volume".
+#![tactic(auto)]
+
 ghost use Rattle.std.specs.Prelude.{◌≡◌, ◌+◌, ◌-◌, ◌*◌, ◌≤◌, ◌<◌, eqb, ◌++◌, length, take, drop};
 ghost use Rattle.model.specs.Bytes.{view, run, ◌and◌};
 ghost use Rattle.model.specs.Names.{capital_name};

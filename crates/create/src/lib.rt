@@ -1,5 +1,7 @@
 // Create: a new file or directory with its entry and its block; a full subdirectory first gains a block. All checks stand before the first
 // changed byte; a refusal has the number of document 01. The outcome is the one of the definition in model.
+#![tactic(auto)]
+
 ghost use Rattle.std.specs.Prelude.{◌≡◌, true, ◌+◌, ◌*◌, ◌≤◌, ◌<◌, length, eqb};
 ghost use Rattle.model.specs.Bytes.{view, put_word, ◌or◌};
 ghost use Rattle.model.specs.Names.{part, proper_path};
@@ -38,7 +40,7 @@ const DIRECTORY: u8 = 0xD;
 const DIRECTORY_TYPE: u8 = 0x0F;
 
 // What is to be created.
-#[derive(Drop)]
+#[derive(Clone, Copy)]
 struct Wanted {
     kind: u8,
     ftype: u8,
@@ -47,7 +49,7 @@ struct Wanted {
 }
 
 // The directory of a new entry, with the number of blocks of its volume; or why there is none.
-#[derive(Drop)]
+#[derive(Clone, Copy)]
 enum Housed {
     In(usize, Home),
     Refused(Refusal),

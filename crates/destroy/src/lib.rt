@@ -1,5 +1,7 @@
 // Destroy: a file, or a directory with no entries, leaves its directory, and its blocks are given back.
 // It answers for every image and every path; a refusal has the number of document 01 and changes no byte.
+#![tactic(auto)]
+
 ghost use Rattle.std.specs.Prelude.{◌≡◌, ◌<◌, length};
 ghost use Rattle.model.specs.Bytes.{view};
 ghost use Rattle.model.specs.Kinds.{key_of};

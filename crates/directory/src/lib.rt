@@ -1,5 +1,7 @@
 // Directories: the kind that follows from EOF, what a slot says, searches in a directory, and the lookup of a path.
 // A slot is always lent as its 39 bytes, from the middle of the image.
+#![tactic(auto)]
+
 ghost use Rattle.std.specs.Prelude.{◌≡◌, true, [], ◌∷◌, ◌+◌, ◌*◌, ◌≤◌, ◌<◌, length};
 ghost use Rattle.model.specs.Bytes.{view, word, long};
 ghost use Rattle.model.specs.Names.{proper_parts, proper_path};
@@ -30,7 +32,7 @@ const VOLUME_LENGTH: u16 = 4;
 const VOLUME_HEADER: usize = 1028;
 
 // What the bytes of a slot say.
-#[derive(Drop)]
+#[derive(Clone, Copy)]
 pub enum Slot {
     Inactive,
     // A kind that is none of the four.
@@ -39,14 +41,14 @@ pub enum Slot {
 }
 
 // Where a new entry can go.
-#[derive(Drop)]
+#[derive(Clone, Copy)]
 pub enum Vacancy {
     Slot(Place),
     Full,
 }
 
 // A directory: its own place, and where its chain begins and how long it is.
-#[derive(Drop)]
+#[derive(Clone, Copy)]
 pub struct Home {
     pub place: Place,
     pub key: u16,
@@ -54,7 +56,7 @@ pub struct Home {
 }
 
 // What a path leads to.
-#[derive(Drop)]
+#[derive(Clone, Copy)]
 pub enum Looked {
     NoVolume,
     NoDirectory,
@@ -64,7 +66,7 @@ pub enum Looked {
 }
 
 // A directory that was found, or none.
-#[derive(Drop)]
+#[derive(Clone, Copy)]
 enum Inner {
     Directory(Home),
     Other,

@@ -1,5 +1,7 @@
 // What the calls store in a slot: stamps, names as capitals, and the 39 bytes of headers and entries.
 // A writer of a slot is lent its 39 bytes from the middle of the image, and touches nothing else.
+#![tactic(auto)]
+
 ghost use Rattle.std.specs.Prelude.{◌≡◌, ◌+◌, ◌≤◌, ◌<◌, length};
 ghost use Rattle.model.specs.Bytes.{view, paste};
 ghost use Rattle.model.specs.Names.{capitals, part};

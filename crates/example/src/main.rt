@@ -1,4 +1,6 @@
 // The calls in use: a volume in memory is formatted, LOG is made on it, written and read back.
+#![tactic(auto)]
+
 use libc::STDOUT_FILENO;
 use model::Stamp;
 

@@ -1,5 +1,7 @@
 // The blocks and bytes of a data file: the data block of a file block, and a run of bytes read with holes as zero.
 // A file has a height (0 seedling, 1 sapling, 2 tree) and a key. Document 01, "The volume on disk".
+#![tactic(auto)]
+
 ghost use Rattle.std.specs.Prelude.{◌≡◌, ℕ, ◌+◌, ◌*◌, ◌%◌, ◌≤◌, ◌<◌, length};
 ghost use Rattle.model.specs.Bytes.{view, paste, from};
 ghost use Rattle.model.specs.File.{pointer, data_block, file_byte};

@@ -1,4 +1,6 @@
 // Format: a fresh volume on every byte of the image. The outcome is the one of the definition in model.
+#![tactic(auto)]
+
 ghost use Rattle.std.specs.Prelude.{◌≡◌, ◌+◌, ◌*◌, ◌≤◌, ◌<◌, length, leb, ltb};
 ghost use Rattle.model.specs.Bytes.{view, paste, put_word, one_if, ◌and◌};
 ghost use Rattle.model.specs.Names.{part};

@@ -1,5 +1,7 @@
 // What write and set EOF share: a file's end zeroed, new key blocks, and the entry written anew.
 // A file has a height (0 seedling, 1 sapling, 2 tree) and a key. Document 01, "Growing".
+#![tactic(auto)]
+
 ghost use Rattle.std.specs.Prelude.{◌≡◌, not, ◌+◌, ◌-◌, ◌*◌, ◌%◌, ◌≤◌, ◌<◌, length, ltb};
 ghost use Rattle.model.specs.Bytes.{view, put, put_word, put_long};
 ghost use Rattle.model.specs.Map.{room, lowest};

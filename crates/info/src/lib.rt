@@ -1,4 +1,6 @@
 // Get info and space: the calls that only tell. Each answers for every image and every argument; a refusal has the number of document 01.
+#![tactic(auto)]
+
 ghost use Rattle.std.specs.Prelude.{◌≡◌, ◌+◌, ◌*◌, ◌≤◌, ◌<◌, length};
 ghost use Rattle.model.specs.Bytes.{view, word};
 ghost use Rattle.model.specs.Directory.{map_block, map_place};

@@ -1,5 +1,7 @@
 // Text laid on a page, byte by byte: a page shows the bytes of the text from an offset on.
 // The text is never held as a whole; a page keeps what falls on it.
+#![tactic(auto)]
+
 ghost use Rattle.std.specs.Prelude.{◌≡◌, [], ◌∷◌, ◌+◌, ◌≤◌, ◌<◌, length};
 ghost use Rattle.model.specs.Bytes.{view};
 ghost use Rattle.model.specs.Catalog.{decimal_before, decimal, hex_digit, hex_byte, text, space'};
@@ -8,7 +10,7 @@ ghost use Rattle.ink.specs.Ink.{sheet, Prints};
 const SPACE: u8 = 32;
 
 // Bytes of the text that are still to be skipped, and bytes of the page that are written.
-#[derive(Drop)]
+#[derive(Clone, Copy)]
 pub struct Ink {
     pub skip: usize,
     pub at: usize,

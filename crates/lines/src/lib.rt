@@ -1,4 +1,6 @@
 // A line of a script: the command that its word names, and the fields behind it. All of them are read before anything is done.
+#![tactic(auto)]
+
 ghost use Rattle.std.specs.Prelude.{◌≡◌, true, ◌≤◌, length, take};
 ghost use Rattle.model.specs.Bytes.{view};
 ghost use Rattle.script.specs.Fields.{Takes};
@@ -7,7 +9,7 @@ ghost use Rattle.lines.specs.Commands.{look_from, change_from, look_forms, call_
 use ink::Ink;
 
 // The commands that only look.
-#[derive(Drop)]
+#[derive(Clone, Copy)]
 pub enum Look {
     Digest,
     Block,
@@ -18,7 +20,7 @@ pub enum Look {
 }
 
 // The calls that change the volume and are done or refused.
-#[derive(Drop)]
+#[derive(Clone, Copy)]
 pub enum Call {
     Format,
     Create,
@@ -29,7 +31,7 @@ pub enum Call {
 }
 
 // The commands that change the image.
-#[derive(Drop)]
+#[derive(Clone, Copy)]
 pub enum Change {
     Call(Call),
     Write,
@@ -39,7 +41,7 @@ pub enum Change {
 }
 
 // `Blocks` and `Bytes` make a new image.
-#[derive(Drop)]
+#[derive(Clone, Copy)]
 pub enum Command {
     Blocks,
     Bytes,
@@ -49,21 +51,21 @@ pub enum Command {
 }
 
 // What a line says, and whether its fields are good.
-#[derive(Drop)]
+#[derive(Clone, Copy)]
 pub struct Line {
     pub command: Command,
     pub good: bool,
 }
 
 // What a command leaves: the page, and whether its line was good.
-#[derive(Drop)]
+#[derive(Clone, Copy)]
 pub struct Said {
     pub ink: Ink,
     pub good: bool,
 }
 
 // The forms of a command's fields, in the first bytes.
-#[derive(Drop)]
+#[derive(Clone, Copy)]
 struct Forms {
     size: usize,
     bytes: [u8; 6],

@@ -1,5 +1,7 @@
 // What `catalog` prints, a page at a time: a page shows the bytes of the text from an offset on.
 // The text is never held as a whole: the walk emits it (`ink`), and a page keeps what falls on it.
+#![tactic(auto)]
+
 ghost use Rattle.std.specs.Prelude.{◌≡◌, true, [], ◌∷◌, ◌+◌, ◌*◌, ◌/◌, ◌≤◌, ◌<◌, length};
 ghost use Rattle.model.specs.Bytes.{view};
 ghost use Rattle.model.specs.Directory.{at};

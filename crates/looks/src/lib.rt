@@ -1,4 +1,6 @@
 // The commands of a script that only look: no byte of the image changes. Their fields have been read.
+#![tactic(auto)]
+
 ghost use Rattle.std.specs.Prelude.{◌≡◌, true, [], ◌∷◌, ◌≤◌, length};
 ghost use Rattle.model.specs.Bytes.{view};
 ghost use Rattle.model.specs.Read.{read as readCall};

@@ -1,5 +1,7 @@
 // The volume's map: which blocks are free, how many are, the first free one; blocks taken and given back.
 // A volume of n blocks has its map from block m on. Document 01, "The map".
+#![tactic(auto)]
+
 ghost use Rattle.std.specs.Prelude.{◌≡◌, ℕ, ◌+◌, ◌-◌, ◌*◌, ◌/◌, ◌%◌, ◌^◌, ◌≤◌, ◌<◌, length, eqb};
 ghost use Rattle.std.specs.Int.Count.{ones};
 ghost use Rattle.model.specs.Bytes.{view, ◌or◌};

@@ -1,5 +1,7 @@
 // Claims blocks: each must be on the volume and not be claimed before. The claimed blocks are the set bits of a lent slice, laid out as a
 // map that starts at block 0, so that `map` reads and sets them. Each contract says what a list of claims comes to (crate claims).
+#![tactic(auto)]
+
 ghost use Rattle.std.specs.Prelude.{◌≡◌, true, [], ◌∷◌, ◌+◌, ◌*◌, ◌≤◌, ◌<◌, length, ltb};
 ghost use Rattle.model.specs.Bytes.{view};
 ghost use Rattle.model.specs.File.{limb, nodes};
@@ -9,7 +11,7 @@ ghost use Rattle.marks.specs.Marks.{marks, nothing, took_all, took_count};
 const MAP_PLACE: usize = 6;
 
 // What a claim of a whole file answers: how many blocks it has, or that a claim failed.
-#[derive(Drop)]
+#[derive(Clone, Copy)]
 pub enum Took {
     Count(usize),
     No,

@@ -1,14 +1,14 @@
 -- A refused call leaves image and buffer as they were, and the other parts of its answer are 0: one law of the table, used for every call.
-use Prim.Native.Nat.{ℕ, ◌≤◌, ◌<◌, ◌+◌}
+use Prim.Native.Nat.{ℕ, ◌<◌}
 use mathlib.Core.Path.{◌≡◌, refl}
-use mathlib.Core.List.{List, [], ◌∷◌}
+use mathlib.Core.List.{List, ◌∷◌}
 use mathlib.Core.Bool.{Bool, true, false}
 use lib.Dec.{eqb}
 use native.Mathlib.Omega.{arith}
 use borrow.Author.Tests.{eq-eqb, ne_eqb}
 use Rattle.model.specs.Bytes.{Bytes}
 use Rattle.model.specs.Refusals.{refusal_number, Row, first, Outcome, settle}
-use Rattle.model.specs.Calls.{Nothing, nothing}
+use Rattle.model.specs.Calls.{nothing}
 use Rattle.model.specs.Format.{format}
 use Rattle.model.specs.Create.{Wanted, create}
 use Rattle.model.specs.Destroy.{destroy}

@@ -1,8 +1,6 @@
 -- The shapes of document 01 that two ends could get wrong alike, each at an example: where a bit, a pointer's halves, a number's bytes and a slot stand.
-use Prim.Native.Nat.{ℕ, ◌+◌, ◌*◌}
 use mathlib.Core.Path.{◌≡◌, refl}
-use mathlib.Core.List.{List, [], ◌∷◌}
-use Rattle.model.specs.Bytes.{Bytes, zeros, put, paste, digit, word, put_word}
+use Rattle.model.specs.Bytes.{zeros, put, paste, digit, word, put_word}
 use Rattle.model.specs.Map.{weight, bit, map_at, free}
 use Rattle.model.specs.Directory.{place, at, slot_of}
 use Rattle.model.specs.File.{pointer, put_pointer}

@@ -1,7 +1,7 @@
 -- The answers of the calls as this paper's numbers and values, and what a public contract says with them.
 -- "All other parts of a refused answer are 0."
 use Rattle.std.specs.Prelude.{ℕ, ◌≡◌, List, length}
-use Rattle.model.specs.Bytes.{Bytes, view}
+use Rattle.model.specs.Bytes.{view}
 use Rattle.model.specs.Refusals.{refusal_number, Outcome}
 use Rattle.model.specs.Calls.{Nothing}
 use Rattle.model.specs.Info.{no_info, Space, no_space}

@@ -1,10 +1,9 @@
 -- What the calls share: the rows of the table that several have, the access bits, and the fields that they store.
-use Rattle.std.specs.Prelude.{ℕ, suc, ◌+◌, ◌-◌, ◌*◌, ◌/◌, ◌%◌, List, [], ◌∷◌, Bool, true, false, not, leb, ltb, eqb}
-use Rattle.std.proofs.Math.Option.{Option, none, some}
-use Rattle.model.specs.Bytes.{Bytes, put, paste, from, zeros, digit, put_word, put_long, ◌and◌, ◌or◌}
-use Rattle.model.specs.Names.{Part, part, parts, proper_path, capitals, name_size}
+use Rattle.std.specs.Prelude.{ℕ, ◌+◌, ◌-◌, ◌*◌, ◌/◌, ◌%◌, List, [], ◌∷◌, Bool, true, false, not, eqb}
+use Rattle.model.specs.Bytes.{Bytes, put, paste, from, zeros, digit, ◌and◌}
+use Rattle.model.specs.Names.{Part, part, parts, proper_path, capitals}
 use Rattle.model.specs.Map.{given}
-use Rattle.model.specs.Directory.{at, volume, Target, noVolume, noDirectory, missing, there, lookup, Sort, sort, is_directory, access}
+use Rattle.model.specs.Directory.{Target, noVolume, noDirectory, missing, there, lookup, sort, is_directory, access}
 use Rattle.model.specs.Sound.{whole_blocks, prodos, sound}
 use Rattle.model.specs.Refusals.{Row, row}
 use Rattle.model.specs.declared.Stamp.{Stamp}

@@ -1,6 +1,6 @@
 -- What `catalog` prints for an image, as bytes. "First line: name, total, free. Others: kind (hex digit), type (two hex digits), blocks used, EOF,
 -- path, other numbers in decimal; directory order, a subdirectory's content straight after it."
-use Rattle.std.specs.Prelude.{ℕ, zero, suc, ◌+◌, ◌*◌, ◌/◌, ◌%◌, List, [], ◌∷◌, ◌++◌, Bool, true, false, ltb, eqb}
+use Rattle.std.specs.Prelude.{ℕ, zero, suc, ◌+◌, ◌/◌, ◌%◌, List, [], ◌∷◌, ◌++◌, true, false, ltb, eqb}
 use Rattle.model.specs.Bytes.{Bytes, gather}
 use Rattle.model.specs.Names.{slash, name_size}
 use Rattle.model.specs.Map.{room}

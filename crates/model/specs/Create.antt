@@ -1,9 +1,9 @@
 -- Create: "first inactive slot in chain order; a full subdirectory first gains a block at its end (its entry: blocks used +1, EOF +512), then
 -- the file's block is taken. All 39 bytes are written."
-use Rattle.std.specs.Prelude.{ℕ, zero, suc, ◌+◌, ◌-◌, ◌*◌, List, [], ◌∷◌, Bool, true, false, not, leb, ltb, eqb}
+use Rattle.std.specs.Prelude.{ℕ, zero, suc, ◌+◌, ◌*◌, [], ◌∷◌, Bool, true, false, not, ltb, eqb}
 use Rattle.std.proofs.Math.Option.{Option, none, some}
 use Rattle.model.specs.Bytes.{Bytes, put, paste, put_word, put_long, ◌and◌, ◌or◌}
-use Rattle.model.specs.Names.{Part, part, parts}
+use Rattle.model.specs.Names.{Part, parts}
 use Rattle.model.specs.Map.{room, lowest, taken}
 use Rattle.model.specs.Directory.{at, block_of, slot_of, volume, slot_size, directory_type, map_block, active_count, next, key, used, eof, kids, vacant, Target}
 use Rattle.model.specs.Refusals.{row, first, Outcome, settle}

@@ -1,6 +1,6 @@
 -- Destroy: "entry byte 0 becomes 0, the count falls, all its blocks are freed. A directory never shrinks."
-use Rattle.std.specs.Prelude.{ℕ, ◌+◌, ◌-◌, ◌*◌, List, [], ◌∷◌, Bool, true, false, not, eqb}
-use Rattle.model.specs.Bytes.{Bytes, put, put_word, ◌and◌, ◌or◌}
+use Rattle.std.specs.Prelude.{ℕ, ◌+◌, ◌-◌, ◌*◌, [], ◌∷◌, Bool, not, eqb}
+use Rattle.model.specs.Bytes.{Bytes, put, put_word, ◌and◌}
 use Rattle.model.specs.Directory.{at, volume, map_block, active_count, key, access, sort, is_directory, Target}
 use Rattle.model.specs.File.{blocks}
 use Rattle.model.specs.Refusals.{row, first, Outcome, settle}

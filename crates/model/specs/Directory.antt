@@ -1,6 +1,6 @@
 -- Directories. "Directory block: previous block at 0, next at 2 (0 for none), 13 slots of 39 bytes from byte 4, counted 1 to 13. Slot 1 of the
 -- key (first) block is the header." Headers and entries have name, creation stamp, versions and access at the same places of the slot.
-use Rattle.std.specs.Prelude.{ℕ, zero, suc, ◌+◌, ◌-◌, ◌*◌, ◌/◌, ◌%◌, List, [], ◌∷◌, ◌++◌, Bool, true, false, leb, ltb, eqb, drop}
+use Rattle.std.specs.Prelude.{ℕ, zero, suc, ◌+◌, ◌-◌, ◌*◌, ◌/◌, ◌%◌, List, [], ◌∷◌, ◌++◌, Bool, true, false, leb, eqb, drop}
 use Rattle.std.proofs.Math.Option.{Option, none, some}
 use Rattle.model.specs.Bytes.{Bytes, word, long, run, sum, ◌and◌}
 use Rattle.model.specs.Names.{Part, same_name}

@@ -1,6 +1,6 @@
 -- Files. "An index holds 256 pointers, low bytes in its first half, high bytes in its second. Pointer 0 is a hole. [..] Byte p is in file block
 -- p div 512; file block n is pointer n mod 256 of index n div 256." A file of height h: 0 seedling, 1 sapling, 2 tree.
-use Rattle.std.specs.Prelude.{ℕ, zero, suc, ◌+◌, ◌-◌, ◌*◌, ◌/◌, ◌%◌, max, List, [], ◌∷◌, map, Bool, true, false, leb, ltb, eqb}
+use Rattle.std.specs.Prelude.{ℕ, zero, suc, ◌+◌, ◌-◌, ◌*◌, ◌/◌, ◌%◌, max, List, [], ◌∷◌, map, true, false, eqb}
 use Rattle.model.specs.Bytes.{Bytes, put, run, gather}
 use Rattle.model.specs.Kinds.{kind_number, kind_for}
 use Rattle.model.specs.Directory.{Sort, inactive, directory, improper, file, sort, key, used, chain}

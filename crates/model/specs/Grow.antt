@@ -1,8 +1,8 @@
 -- Growing. "First zero every byte the file owns at old EOF and after. Then seedling to sapling takes an index (old key is pointer 0), sapling to
 -- tree takes a master (old index is pointer 0). Any write, growing or not, then takes, by rising file block, the missing index and the missing
 -- data block. The need for $48 is their total."
-use Rattle.std.specs.Prelude.{ℕ, zero, suc, ◌+◌, ◌-◌, ◌*◌, ◌/◌, ◌%◌, ◌^◌, List, Bool, true, false, leb, ltb, eqb}
-use Rattle.model.specs.Bytes.{Bytes, clear, sum, run, is, one_if}
+use Rattle.std.specs.Prelude.{ℕ, zero, suc, ◌+◌, ◌-◌, ◌*◌, ◌/◌, ◌%◌, ◌^◌, true, false, ltb, eqb}
+use Rattle.model.specs.Bytes.{Bytes, clear, sum, run, is}
 use Rattle.model.specs.Map.{lowest, taken}
 use Rattle.model.specs.File.{pointer, put_pointer, above, data_block, span}
 

@@ -1,8 +1,8 @@
 -- Set info, get info and space.
-use Rattle.std.specs.Prelude.{ℕ, ◌+◌, ◌-◌, ◌*◌, ◌/◌, ◌%◌, List, [], ◌∷◌, Bool, true, false, not, eqb}
+use Rattle.std.specs.Prelude.{ℕ, ◌+◌, ◌-◌, ◌/◌, ◌%◌, [], ◌∷◌, true, false, not, eqb}
 use Rattle.model.specs.Bytes.{Bytes, put, put_word, word}
 use Rattle.model.specs.Map.{room}
-use Rattle.model.specs.Directory.{at, volume, map_block, total_blocks, ftype, access, field, used, eof, Target}
+use Rattle.model.specs.Directory.{at, volume, map_block, ftype, access, used, eof, Target}
 use Rattle.model.specs.Refusals.{row, first, Outcome, settle}
 use Rattle.model.specs.Calls.{total, not_prodos, not_sound, bad_path, not_volume, not_directory, not_found, spot, target, put_stamp, Nothing, nothing}
 use Rattle.model.specs.declared.Stamp.{Stamp}

@@ -1,5 +1,5 @@
 -- The kinds of an active entry. "The kind follows from EOF: 0 to 512 seedling, 513 to 131,072 sapling, above that tree."
-use Rattle.std.specs.Prelude.{ℕ, ◌+◌, ◌*◌, Bool, true, false, leb}
+use Rattle.std.specs.Prelude.{ℕ, true, false, leb}
 use Rattle.model.specs.declared.Kind.{Kind}
 use Rattle.model.specs.declared.Kind.TheVariants.{Seedling, Sapling, Tree, Directory}
 

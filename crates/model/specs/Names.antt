@@ -1,6 +1,6 @@
 -- Names and paths. "A path has 1 to 64 bytes: each part is a slash and a name, with nothing after the last name. A name has 1 to 15 bytes,
 -- a letter first, then letters, digits and dots; small letters are read as capitals."
-use Rattle.std.specs.Prelude.{ℕ, zero, suc, ◌+◌, ◌-◌, ◌%◌, List, [], ◌∷◌, Bool, true, false, leb, ltb, eqb}
+use Rattle.std.specs.Prelude.{ℕ, zero, suc, ◌+◌, ◌-◌, ◌%◌, List, [], ◌∷◌, Bool, true, false, ltb, eqb}
 use Rattle.model.specs.Bytes.{Bytes, equal_bytes, place_of, ◌and◌, ◌or◌, within}
 
 abbrev pub name_most : ℕ

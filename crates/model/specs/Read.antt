@@ -1,5 +1,5 @@
 -- Read: "the smaller of buffer length and EOF minus position; holes as zero; buffer bytes beyond stay."
-use Rattle.std.specs.Prelude.{ℕ, ◌+◌, ◌-◌, min, List, [], ◌∷◌, Bool, true, false, not, leb, ltb, eqb}
+use Rattle.std.specs.Prelude.{ℕ, ◌-◌, min, [], ◌∷◌, not, leb, ltb, eqb}
 use Rattle.model.specs.Bytes.{Bytes, paste, from, ◌and◌}
 use Rattle.model.specs.Directory.{eof, access, Target}
 use Rattle.model.specs.File.{content}

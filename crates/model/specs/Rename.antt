@@ -1,6 +1,6 @@
 -- Rename: "name with spare bytes 0, backup bit set in the entry; a subdirectory's header gets the name but not the bit. For the volume, the
 -- header's access and name are meant and no backup bit."
-use Rattle.std.specs.Prelude.{ℕ, ◌+◌, ◌*◌, ◌/◌, List, [], ◌∷◌, Bool, true, false, not, eqb}
+use Rattle.std.specs.Prelude.{ℕ, ◌+◌, ◌*◌, ◌/◌, [], ◌∷◌, Bool, true, false, not, eqb}
 use Rattle.std.proofs.Math.Option.{Option, none, some}
 use Rattle.model.specs.Bytes.{Bytes, put, ◌and◌}
 use Rattle.model.specs.Names.{part, proper_path, proper_name}

@@ -1,6 +1,6 @@
 -- Set EOF and shrinking. "Keep file blocks below the larger of 1 and EOF/512 rounded up; free the rest, and each index none of whose 256 file
 -- blocks is below that (an index of holes only stays otherwise); pointers to freed blocks become 0 in the blocks the file still owns."
-use Rattle.std.specs.Prelude.{ℕ, zero, suc, ◌+◌, ◌-◌, ◌*◌, List, [], ◌∷◌, Bool, true, false, not, leb, ltb, eqb}
+use Rattle.std.specs.Prelude.{ℕ, zero, suc, ◌+◌, ◌-◌, ◌*◌, [], ◌∷◌, true, false, not, leb, ltb, eqb}
 use Rattle.model.specs.Bytes.{Bytes, clear, gather, run}
 use Rattle.model.specs.Map.{room, given}
 use Rattle.model.specs.Directory.{map_block, sort, key, eof, access, Target}

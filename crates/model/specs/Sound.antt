@@ -1,12 +1,12 @@
 -- A sound volume: nothing is wrong with any entry on the walk, each block has one owner or is free, and the map's other bits are 0.
 -- Faults are counted, so that none is 0.
-use Rattle.std.specs.Prelude.{ℕ, zero, suc, ◌+◌, ◌-◌, ◌*◌, ◌/◌, ◌%◌, List, [], ◌∷◌, ◌++◌, Bool, true, false, leb, ltb, eqb, length}
+use Rattle.std.specs.Prelude.{ℕ, zero, suc, ◌+◌, ◌*◌, ◌/◌, ◌%◌, List, [], ◌∷◌, ◌++◌, Bool, true, false, leb, eqb, length}
 use Rattle.model.specs.Bytes.{Bytes, run, sum, count, gather, one_if, is, ne, unless, within, ◌and◌}
 use Rattle.model.specs.Names.{capital_name, alike}
 use Rattle.model.specs.Map.{map_blocks, free, rest_clear}
 use Rattle.model.specs.Directory.{Sort, inactive, directory, improper, file, sort, is_active, at, block_of, slot_of, slot_size, slots_in_block, directory_type, volume, volume_block, volume_chain, map_place, map_block, total_blocks, previous, next, header_kind, header_slot_size, header_slots, active_count, parent_block, parent_slot, parent_slot_size, ftype, key, used, eof, directory_key, chain, kids, active}
 use Rattle.model.specs.File.{Node, nodes, first_below, height_for, span, blocks}
-use Rattle.model.specs.Walk.{Visit, visits}
+use Rattle.model.specs.Walk.{visits}
 
 -- "$52: length isn't 512 x n, n in 16..65,535; or [..] block 2 has previous not 0, kind not $F, $23 not 39, $24 not 13, or total not n"
 abbrev pub proper_size : ℕ → Bool

@@ -1,5 +1,5 @@
 -- Write: "length 0 changes nothing. Else EOF becomes the larger of EOF and end; stamp and backup bit set."
-use Rattle.std.specs.Prelude.{ℕ, zero, suc, ◌+◌, ◌-◌, ◌*◌, ◌/◌, ◌%◌, min, max, List, [], ◌∷◌, Bool, true, false, not, leb, ltb, eqb, length}
+use Rattle.std.specs.Prelude.{ℕ, zero, suc, ◌+◌, ◌-◌, ◌*◌, ◌/◌, min, max, [], ◌∷◌, true, false, not, ltb, eqb, length}
 use Rattle.model.specs.Bytes.{Bytes, put, paste, from, put_word, put_long, ◌or◌}
 use Rattle.model.specs.Names.{name_size}
 use Rattle.model.specs.Map.{room}

@@ -1,11 +1,13 @@
 // The plain types of a ProDOS volume: refusals, kinds with their keys, entries, places and answers.
 // Their numbers and meanings stand in specs/, a file for each heading of document 01.
+#![tactic(auto)]
+
 ghost use Rattle.std.specs.Prelude.{◌≡◌};
 ghost use Rattle.model.specs.Refusals.{refusal_number};
 ghost use Rattle.model.specs.Kinds.{kind_number, key_of};
 
 // Why a call is refused. Document 01, "Refusal numbers"; $4B stands there twice and is one case.
-#[derive(Drop)]
+#[derive(Clone, Copy)]
 pub enum Refusal {
     NotProdos,
     NotSound,
@@ -24,7 +26,7 @@ pub enum Refusal {
 }
 
 // The four kinds of an active entry, each with its own key block.
-#[derive(Drop)]
+#[derive(Clone, Copy)]
 pub enum Kind {
     Seedling(u16),
     Sapling(u16),
@@ -33,14 +35,14 @@ pub enum Kind {
 }
 
 // A date and a time as they are stored: never read.
-#[derive(Drop)]
+#[derive(Clone, Copy)]
 pub struct Stamp {
     pub date: u16,
     pub time: u16,
 }
 
 // What an entry says of its file.
-#[derive(Drop)]
+#[derive(Clone, Copy)]
 pub struct Entry {
     pub kind: Kind,
     pub ftype: u8,
@@ -53,21 +55,21 @@ pub struct Entry {
 }
 
 // Where an entry stands: a block, and a slot from 1 to 13.
-#[derive(Drop)]
+#[derive(Clone, Copy)]
 pub struct Place {
     pub block: u16,
     pub slot: u8,
 }
 
 // What a search in a directory finds.
-#[derive(Drop)]
+#[derive(Clone, Copy)]
 pub enum Found {
     At(Place, Entry),
     Missing,
 }
 
 // What get info tells: of the volume, kind is $F.
-#[derive(Drop)]
+#[derive(Clone, Copy)]
 pub struct Info {
     pub kind: u8,
     pub ftype: u8,
@@ -80,28 +82,28 @@ pub struct Info {
 }
 
 // The answer of a call that tells nothing but whether it was done.
-#[derive(Drop)]
+#[derive(Clone, Copy)]
 pub enum Answer {
     Done,
     Refused(Refusal),
 }
 
 // The answer of read and write: how many bytes were transferred.
-#[derive(Drop)]
+#[derive(Clone, Copy)]
 pub enum Transfer {
     Moved(usize),
     Refused(Refusal),
 }
 
 // The answer of get info.
-#[derive(Drop)]
+#[derive(Clone, Copy)]
 pub enum InfoAnswer {
     Told(Info),
     Refused(Refusal),
 }
 
 // The answer of space.
-#[derive(Drop)]
+#[derive(Clone, Copy)]
 pub enum SpaceAnswer {
     Blocks { total: u16, free: u16 },
     Refused(Refusal),

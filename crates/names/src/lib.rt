@@ -1,4 +1,6 @@
 // Names and paths: which are proper, stored names compared, a cursor over a path's names, and the last name as a part of the path.
+#![tactic(auto)]
+
 ghost use Rattle.std.specs.Prelude.{◌≡◌, ◌+◌, ◌-◌, ◌≤◌, ◌<◌, length, take, drop};
 ghost use Rattle.model.specs.Bytes.{view, equal_bytes};
 ghost use Rattle.model.specs.Names.{capital, letter, name_byte, name_bytes, proper_name, capitals, part, proper_path, capital_name, same_name};
@@ -11,13 +13,13 @@ const NAME_MOST: usize = 15;
 const PATH_MOST: usize = 64;
 
 // A place in a path. It is handed on by value: a step gives the cursor behind the name.
-#[derive(Drop)]
+#[derive(Clone, Copy)]
 pub struct Cursor {
     pub at: usize,
 }
 
 // What a step over a path finds.
-#[derive(Drop)]
+#[derive(Clone, Copy)]
 pub enum Step {
     // A proper name from start up to end, and the cursor behind it.
     Name {

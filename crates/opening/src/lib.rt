@@ -1,4 +1,6 @@
 // What every call does before its own work: whether an image is a sound volume ($52, $5A), and what a path leads to ($40, $45, $44, $46).
+#![tactic(auto)]
+
 ghost use Rattle.std.specs.Prelude.{◌≡◌, true, ℕ, ◌*◌, ◌≤◌, length};
 ghost use Rattle.model.specs.Bytes.{view};
 ghost use Rattle.model.specs.Names.{proper_path};
@@ -11,14 +13,14 @@ use directory::{Home, Looked};
 use model::{Entry, Kind, Place, Refusal};
 
 // What an image is: a sound volume of so many blocks, or refused.
-#[derive(Drop)]
+#[derive(Clone, Copy)]
 pub enum Volume {
     Sound(usize),
     Refused(Refusal),
 }
 
 // What a path leads to, with the number of blocks of its volume and, of an entry, its directory; or why it leads nowhere.
-#[derive(Drop)]
+#[derive(Clone, Copy)]
 pub enum Opened {
     Volume(usize),
     Entry(usize, Home, Place, Entry),

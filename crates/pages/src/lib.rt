@@ -1,4 +1,6 @@
 // What `catalog` prints for an image, a page at a time: the listing of a sound volume, or why there is none.
+#![tactic(auto)]
+
 ghost use Rattle.std.specs.Prelude.{◌≡◌, length};
 ghost use Rattle.model.specs.Bytes.{view};
 ghost use Rattle.model.specs.Catalog.{catalog};

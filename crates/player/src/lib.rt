@@ -1,5 +1,7 @@
 // Plays a script of docs/REPLAY.md on one image, and prints a line for each command.
 // What is printed gathers on a page and is written out in large pieces.
+#![tactic(auto)]
+
 ghost use Rattle.std.specs.Prelude.{◌≡◌, ◌≤◌, length};
 ghost use Rattle.model.specs.Bytes.{view};
 ghost use Rattle.ink.specs.Ink.{sheet};
@@ -29,14 +31,14 @@ const BLOCK: usize = 512;
 const LONGEST_LINE: usize = 4096;
 
 // The image's length, and the bytes of the page in use.
-#[derive(Drop)]
+#[derive(Clone, Copy)]
 struct State {
     size: usize,
     used: usize,
 }
 
 // The image's length and the page after a command, and whether its line was good.
-#[derive(Drop)]
+#[derive(Clone, Copy)]
 struct After {
     size: usize,
     ink: Ink,

@@ -1,5 +1,7 @@
 // Data laid in a file, file block by file block: what is missing is counted first, then taken, and the data are copied.
 // A file has a height (0 seedling, 1 sapling, 2 tree) and a key. Document 01, "Growing".
+#![tactic(auto)]
+
 ghost use Rattle.std.specs.Prelude.{◌≡◌, ◌+◌, ◌-◌, ◌*◌, ◌/◌, ◌%◌, ◌^◌, ◌≤◌, ◌<◌, length};
 ghost use Rattle.model.specs.Bytes.{view, sum, run};
 ghost use Rattle.model.specs.Map.{lowest};
@@ -13,7 +15,7 @@ ghost use Rattle.pour.specs.Pouring.{Hinted, reached, reached_by, Roomy, Backed,
 const MAP_BLOCK: usize = 6;
 
 // The block that was asked for, and a block below which none is free.
-#[derive(Drop)]
+#[derive(Clone, Copy)]
 pub struct Reached {
     pub block: usize,
     pub hint: usize,

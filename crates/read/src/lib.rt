@@ -1,5 +1,7 @@
 // Read: into a lent buffer, from a position of a file. It answers for every image and every argument; a refusal has the number of document 01
 // and changes no byte.
+#![tactic(auto)]
+
 ghost use Rattle.std.specs.Prelude.{◌≡◌, false, ◌*◌, ◌≤◌, length};
 ghost use Rattle.model.specs.Bytes.{view};
 ghost use Rattle.model.specs.Read.{read as readCall};

@@ -1,5 +1,7 @@
 // Gives blocks back: those of a file, those below some pointers of an index, those of a directory's chain. Only the map is written, and no
 // block that is given back holds part of it: what is read on the way stays what it was.
+#![tactic(auto)]
+
 ghost use Rattle.std.specs.Prelude.{◌≡◌, ◌∷◌, ◌≤◌, ◌<◌};
 ghost use Rattle.model.specs.Bytes.{view};
 ghost use Rattle.model.specs.Directory.{map_place, chain};

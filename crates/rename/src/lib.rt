@@ -1,4 +1,6 @@
 // Rename: the last name of a path becomes the one given. All checks stand before the first changed byte; a refusal has the number of document 01.
+#![tactic(auto)]
+
 ghost use Rattle.std.specs.Prelude.{◌≡◌, ◌+◌, ◌≤◌, length};
 ghost use Rattle.model.specs.Bytes.{view};
 ghost use Rattle.model.specs.Calls.{allows, rename_bit};

@@ -1,4 +1,6 @@
 // `replay`: plays the script that comes on standard input, or the script in each file named by an argument, under its name (docs/REPLAY.md).
+#![tactic(auto)]
+
 use libc::{STDIN_FILENO, STDOUT_FILENO};
 use player::{BUFFER, IMAGE, PAGE, SCRIPT};
 

@@ -1,4 +1,6 @@
 // The line that a command of a script prints, for each answer that a call can give (docs/REPLAY.md).
+#![tactic(auto)]
+
 ghost use Rattle.std.specs.Prelude.{◌≡◌, [], ◌∷◌, ◌≤◌, length};
 ghost use Rattle.model.specs.Bytes.{view};
 ghost use Rattle.model.specs.Catalog.{refused_line};

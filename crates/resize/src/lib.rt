@@ -1,5 +1,7 @@
 // Set EOF: the refusals in their order; then the file grows or shrinks, and its entry is written anew.
 // It answers for every image and every argument; its outcome is the one of the definition in model.
+#![tactic(auto)]
+
 ghost use Rattle.std.specs.Prelude.{◌≡◌, ◌+◌, ◌-◌, ◌*◌, ◌≤◌, ◌<◌, length};
 ghost use Rattle.model.specs.Bytes.{view};
 ghost use Rattle.model.specs.Map.{room};

@@ -1,5 +1,7 @@
 // A line of a script taken apart: its word, and its fields in the forms of docs/REPLAY.md.
 // A field that is bad leaves what was lent as it is, and leads nowhere: no field follows, and no line is done there.
+#![tactic(auto)]
+
 ghost use Rattle.std.specs.Prelude.{◌≡◌, true, ◌+◌, ◌-◌, ◌*◌, ◌≤◌, ◌<◌, eqb, length};
 ghost use Rattle.model.specs.Bytes.{view, paste, from};
 ghost use Rattle.model.specs.Catalog.{newline, space'};

@@ -1,4 +1,6 @@
 // Set info: access, aux and modified stamp as given. All checks stand before the first changed byte; a refusal has the number of document 01.
+#![tactic(auto)]
+
 ghost use Rattle.std.specs.Prelude.{◌≡◌, ◌+◌, ◌≤◌, length};
 ghost use Rattle.model.specs.Bytes.{view, put, put_word};
 ghost use Rattle.model.specs.Calls.{put_stamp};

@@ -1,5 +1,7 @@
 // Shrinking a data file: keys give way to the block below them, what lies past the end is given back, and pointers to it become 0.
 // A file has a height (0 seedling, 1 sapling, 2 tree) and a key. Document 01, "Shrinking".
+#![tactic(auto)]
+
 ghost use Rattle.std.specs.Prelude.{◌≡◌, suc, ◌+◌, ◌-◌, ◌*◌, ◌≤◌, ◌<◌, length};
 ghost use Rattle.model.specs.Bytes.{view};
 ghost use Rattle.model.specs.Directory.{map_place};

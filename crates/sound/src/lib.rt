@@ -1,5 +1,7 @@
 // Whether a volume is sound: one walk that claims every block it meets, then the map. The volume itself is one more entry, at the place of
 // its header. Document 01, "A sound volume".
+#![tactic(auto)]
+
 ghost use Rattle.std.specs.Prelude.{◌≡◌, true, not, ◌*◌, ◌≤◌, ◌<◌, eqb, length};
 ghost use Rattle.model.specs.Bytes.{view, ◌and◌};
 ghost use Rattle.model.specs.Names.{capital_name};
@@ -34,7 +36,7 @@ const LEVELS: usize = 32;
 const DIRECTORY_TYPE: u8 = 0x0F;
 
 // What the claims of a slot by itself come to: one failed, nothing is below it, or a directory's entries are, by its key and length.
-#[derive(Drop)]
+#[derive(Clone, Copy)]
 enum Own {
     Wrong,
     Whole,

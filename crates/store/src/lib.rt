@@ -1,5 +1,7 @@
 // Bytes, numbers and runs in a slice, read and written: what every other crate does to an image.
 // Each contract says the whole slice afterwards, as bytes by address (specs/Bytes.antt of model).
+#![tactic(auto)]
+
 ghost use Rattle.std.specs.Prelude.{◌≡◌, ◌+◌, ◌-◌, ◌*◌, ◌≤◌, ◌<◌, min, max, length};
 ghost use Rattle.model.specs.Bytes.{view, put, paste, from, same, clear, put_word, put_long, word, long, equal_bytes, place_of};
 ghost use Rattle.model.specs.Map.{all_zero};

@@ -1,12 +1,14 @@
 // Whether two of many stored names are alike, in time that grows as their number: the names are put into a tree one by one, each where its bits lead.
 // A name is known by its slot's address, a node of the tree by its name's place in the list. 0 is no child: node 0 is the root.
+#![tactic(auto)]
+
 ghost use Rattle.std.specs.Prelude.{◌≡◌, true, false, ◌+◌, ◌≤◌, ◌<◌, length, get_or};
 ghost use Rattle.model.specs.Bytes.{view, from};
 ghost use Rattle.model.specs.Names.{alike};
 ghost use Rattle.twins.specs.Twins.{Stored, no_twins, digit_of, hash_of, own_bit, bit_of, child, attached, Tree, Lands};
 
 // Where a walk through the tree ended: at a node with the same name, or at one with no child on the side that the next bit says.
-#[derive(Drop)]
+#[derive(Clone, Copy)]
 struct Spot {
     twin: bool,
     node: usize,

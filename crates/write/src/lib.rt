@@ -1,5 +1,7 @@
 // Write: the refusals in their order; then EOF grows, the data are poured, and the entry is written anew.
 // It answers for every image and every argument; its outcome is the one of the definition in model.
+#![tactic(auto)]
+
 ghost use Rattle.std.specs.Prelude.{◌≡◌, ◌+◌, ◌*◌, ◌≤◌, ◌<◌, length, ltb};
 ghost use Rattle.model.specs.Bytes.{view, ◌or◌};
 ghost use Rattle.model.specs.Map.{room};

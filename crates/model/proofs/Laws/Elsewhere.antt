@@ -8,7 +8,6 @@ use native.Mathlib.Nat.{add_assoc}
 use Rattle.model.specs.Bytes.{Bytes, Octets}
 use Rattle.model.specs.Directory.{sort, is_directory, at, volume, access, eof}
 use Rattle.model.specs.File.{content}
-use Rattle.model.specs.Sound.{sound}
 use Rattle.model.specs.Refusals.{Row, row, first, settle}
 use Rattle.model.specs.Read.{filled, to_read, filled_from, read_number, read}
 use Rattle.model.specs.Write.{write}

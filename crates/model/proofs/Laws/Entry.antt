@@ -31,7 +31,6 @@ use Rattle.model.proofs.Laws.One.{leaf, file_directory, Place, slot_placed, slot
 use Rattle.model.proofs.Laws.Weigh.{Gauge, weigh, each, tardy, has, size, weigh_zero, weigh_same, nodes_count, nodes_length, blocks_length, nodes_late, nodes_outside}
 use Rattle.model.proofs.Laws.Move.{by_zero, map_low, map_alike, Fit, Move, move_fit, fit_key}
 use Rattle.model.proofs.Laws.Room.{size_most}
-use Rattle.model.proofs.Laws.Data.{spot}
 use Rattle.model.proofs.Laws.Near.{Near, named_near, capital_near, twins_near}
 use Rattle.model.proofs.Laws.Paths.{SameNames}
 use Rattle.model.proofs.Laws.Noted.{noted_out, noted_near, noted_sort, noted_key, noted_used, noted_eof, noted_up, noted_type, noted_access, noted_octets, backed_read}

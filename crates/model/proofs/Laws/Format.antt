@@ -39,7 +39,7 @@ unfolding linked
 linked_off f p [] i h = refl
 linked_off f p (b ∷ []) i h = put_word_out f (b * 512) p i (λ g l. omega arith)
 linked_off f p (b ∷ c ∷ r) i h =
-    linked_off _ b (c ∷ r) i h ∙ put_word_out _ (b * 512 + 2) c i (λ g l. omega arith) ∙ put_word_out f (b * 512) p i (λ g l. omega arith)
+    linked_off (put_word (put_word f (b * 512) p) (b * 512 + 2) c) b (c ∷ r) i h ∙ put_word_out _ (b * 512 + 2) c i (λ g l. omega arith) ∙ put_word_out f (b * 512) p i (λ g l. omega arith)
 
 in_block : (b r : ℕ) → r < 512 → (b * 512 + r) % 512 ≡ r
 in_block b r h = omega arith

@@ -1,6 +1,6 @@
 -- Where slots and blocks lie, and what chains, trees, names and twins are read from.
 use Prim.Native.Nat.{ℕ, zero, suc, ◌+◌, ◌*◌, ◌≤◌, ◌<◌, ◌/◌, ◌%◌}
-use mathlib.Core.Path.{◌≡◌, refl, sym, ap, ◌∙◌, fun_ext}
+use mathlib.Core.Path.{◌≡◌, refl, sym, ap, ◌∙◌, fun_ext, subst}
 use mathlib.Core.List.{List, [], ◌∷◌, ◌++◌, append_assoc}
 use mathlib.Core.Bool.{Bool, true, false}
 use lib.Dec.{ltb, eqb}
@@ -148,7 +148,7 @@ chain_more v v' z y p k (suc zero) h e c f g i j =
     let q : previous v' z ≡ k = i ∙ e in
     (rw n refl, rw (n, q, j, (f k (omega (arith, is_self k))).1, is_self k) (omega arith))
 chain_more v v' z y p k (suc (suc u)) h e c f g i j =
-    let more : 1 ≤ count y (chain v (next v k) (suc u)) = rw e (last_in v k (next v k) (suc u) (omega arith)) in
+    let more : 1 ≤ count y (chain v (next v k) (suc u)) = subst (λ b. 1 ≤ count b (chain v (next v k) (suc u))) (sym e) (last_in v k (next v k) (suc u) (omega arith)) in
     let other : k ≡ y → ⊥ = λ q. omega (arith, ap (is y) q, is_self y) in
     let rest = chain_more v v' z y k (next v k) (suc u) (omega arith) e (omega (arith, is_no y k (λ q. other (sym q)))) (λ b l. f b (omega arith)) g i j in
     let here = f k (omega (arith, is_self k)) in

@@ -6,7 +6,7 @@ use mathlib.Core.Option.{Option, none, some}
 use mathlib.Core.Bool.{Bool, true, false}
 use lib.Dec.{eqb}
 use native.Mathlib.Omega.{arith}
-use Rattle.model.specs.Bytes.{Bytes, Octets, put, paste, zeros}
+use Rattle.model.specs.Bytes.{put_word, Bytes, Octets, put, paste, zeros}
 use Rattle.model.specs.Names.{Part, part, parts}
 use Rattle.model.specs.Map.{map_blocks, taken}
 use Rattle.model.specs.Directory.{volume_chain, map_place, Sort, inactive, directory, improper, file, sort, at, volume, key, access, map_block, kids, vacant}
@@ -40,7 +40,7 @@ linked_octets : (f : Bytes) (p : ℕ) (bs : List ℕ) → Octets f → Octets (l
 unfolding linked
 linked_octets f p [] o = o
 linked_octets f p (b ∷ []) o = octets_put_word f (b * 512) p o
-linked_octets f p (b ∷ c ∷ r) o = linked_octets _ b (c ∷ r) (octets_put_word _ _ _ (octets_put_word f (b * 512) p o))
+linked_octets f p (b ∷ c ∷ r) o = linked_octets (put_word (put_word f (b * 512) p) (b * 512 + 2) c) b (c ∷ r) (octets_put_word _ _ _ (octets_put_word f (b * 512) p o))
 
 head_octets : (k : ℕ) (p : Bytes) (x : Part) (t : Stamp) (access : ℕ) → Octets p → k < 16 → x.size < 16 → access < 256 → Octets (header_bytes k p x t access)
 unfolding header_bytes

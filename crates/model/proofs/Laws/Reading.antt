@@ -10,7 +10,6 @@ use borrow.Author.Tests.{le-ltb, ne_eqb}
 use Rattle.model.specs.Bytes.{Bytes, Octets, from, ◌and◌}
 use Rattle.model.specs.Directory.{access, eof}
 use Rattle.model.specs.File.{content}
-use Rattle.model.specs.Sound.{sound}
 use Rattle.model.specs.Refusals.{Row, row, first, settle}
 use Rattle.model.specs.Read.{Filled, filled, to_read, filled_from, read_number, read}
 use Rattle.model.specs.Write.{write}

@@ -1,6 +1,6 @@
 -- Sums over the walk of a tree of slots. A weight is a number for each level, parent and slot.
 use Prim.Native.Nat.{ℕ, zero, suc, ◌+◌, ◌*◌, ◌≤◌}
-use mathlib.Core.Path.{◌≡◌, refl, sym, ap, ◌∙◌}
+use mathlib.Core.Path.{◌≡◌, refl, sym, ap, ◌∙◌, subst}
 use mathlib.Core.List.{List, [], ◌∷◌}
 use mathlib.Core.Bool.{Bool, true, false}
 use lib.Dec.{eqb}
@@ -55,7 +55,7 @@ total_le kids kids' w w' (suc l) p ss f =
     let down : (x : ℕ) → is x s + reach kids x l s (kids s) ≤ reach kids x (suc l) p ss = λ x. reach_down kids (λ _ _ y. is x y) l p s ss k in
     let met : 1 ≤ reach kids s (suc l) p ss = omega (arith, is_self s, down s) in
     let edge : (q x : ℕ) → Edge kids l s (kids s) q x → Edge kids (suc l) p ss q x =
-    λ q x. elim [ root e c ↦ child (rw e met) (rw e c) | child r c ↦ child (omega (arith, down q)) c ] in
+    λ q x. elim [ root e c ↦ child (subst (λ z. 1 ≤ reach kids z (suc l) p ss) (sym e) met) (subst (λ z. 1 ≤ count x (kids z)) (sym e) c) | child r c ↦ child (omega (arith, down q)) c ] in
     let here = f (suc l) p s met (root refl k) in
     let below = total_le kids kids' w w' l s (kids s) (λ m q x h e. f m q x (omega (arith, down x)) (edge q x e)) in
     rw here.0 (omega (arith, here.1, below)))
