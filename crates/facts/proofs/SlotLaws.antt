@@ -1,5 +1,5 @@
 -- The slots of a directory that the walk of a sound volume meets: each is proper, and none is the volume's own header.
-use Prim.Native.Nat.{ℕ, suc, ◌+◌, ◌-◌, ◌*◌, ◌/◌, ◌≤◌, ◌<◌}
+use Prim.Native.Nat.{ℕ, zero, suc, ◌+◌, ◌-◌, ◌*◌, ◌/◌, ◌≤◌, ◌<◌}
 use mathlib.Core.Path.{◌≡◌, refl}
 use mathlib.Core.List.{List, [], ◌∷◌, ◌++◌}
 use mathlib.Core.Bool.{true}
@@ -33,14 +33,17 @@ among_append s (x ∷ xs) ys (later a) f g = among_append s xs ys a (λ b. f (la
 
 among_run : (s a c : ℕ) → Among s (run a c) → (a ≤ s) × (s < a + c)
 unfolding run
+among_run s a zero x = elim x [ ]
 among_run s a (suc c) here = (omega arith, omega arith)
 among_run s a (suc c) (later m) = let r = among_run s (suc a) c m in (omega arith, omega arith)
 
 among_drop : (s : ℕ) (xs : List ℕ) → Among s (drop 1 xs) → Among s xs
+among_drop s [] a = elim a [ ]
 among_drop s (x ∷ xs) a = later a
 
 pub among_block : (s : ℕ) (bs : List ℕ) → Among s (slots bs) → 1 ≤ count (s / 13) bs
 unfolding slots sum
+among_block s [] a = elim a [ ]
 among_block s (b ∷ bs) a = among_append s (run (b * 13) 13) (slots bs) a
     (λ m. let r = among_run s (b * 13) 13 m in let e : s / 13 ≡ b = omega arith in omega (arith, is_yes (s / 13) b e))
     (λ m. omega (arith, among_block s bs m))

@@ -1,0 +1,49 @@
+-- `directory::find_in_block` meets its contract: the loop's invariant: the slots from `slot` on decide.
+use mathlib.Core.Path.{◌≡◌, refl, sym, ◌∙◌}
+use Prim.Native.Nat.{◌≤◌, ◌-◌}
+use lib.ListN.{length}
+use native.Mathlib.Omega.{arith}
+use borrow.Author.Rules.{rules}
+use Rattle.model.specs.Bytes.{view}
+use Rattle.model.specs.Names.{part}
+use Rattle.model.specs.Directory.{place, seek}
+use Rattle.directory.specs.Search.{Each, Readable, slots_from}
+use Rattle.directory.proofs.SearchLaws.{each_head, each_tail, seek_slot, seek_none, found_stays, found_rest, slots_more, slots_done}
+use Rattle.directory.proofs.find_in_block.Goals as goal
+
+pub loop-slot-init : goal.loop-slot-init
+loop-slot-init c = (omega arith, c.requires.each, refl)
+
+pub named_at-found-requires : goal.named_at-found-requires
+named_at-found-requires c =
+    let a = c.args in
+    let l = c.loop-slot in (
+      (omega arith, omega arith),
+      omega arith,
+      each_head (Readable (view a.img.now)) (place a.block l.slot) _ _ (slots_more a.block l.slot (omega arith) (omega arith)) l.invariant.1,
+    )
+
+pub returns-in-At : goal.returns-in-At
+returns-in-At c =
+    let a = c.args in
+    let l = c.loop-slot in
+    let r = c.named_at-found in
+    let e = seek_slot (view a.img.now) a.block l.slot _ (omega arith) (omega arith) _ _ l.invariant.2 in
+    r.ensures ∙ sym (found_stays (view a.img.now) _ _ _ e _ _ (sym r.ensures ∙ c.in-At.is))
+
+pub loop-slot-preserved : goal.loop-slot-preserved
+loop-slot-preserved c =
+    let a = c.args in
+    let l = c.loop-slot in
+    let r = c.named_at-found in
+    let e = seek_slot (view a.img.now) a.block l.slot _ (omega arith) (omega arith) _ _ l.invariant.2 in (
+      omega arith,
+      each_tail (Readable (view a.img.now)) (place a.block l.slot) _ _ (slots_more a.block l.slot (omega arith) (omega arith)) l.invariant.1,
+      found_rest (view a.img.now) _ _ _ e (sym r.ensures ∙ c.in_default.is),
+    )
+
+pub returns : goal.returns
+returns c =
+    let a = c.args in
+    let l = c.loop-slot in
+    seek_none (view a.img.now) _ _ _ _ (slots_done a.block l.slot (omega arith)) l.invariant.2

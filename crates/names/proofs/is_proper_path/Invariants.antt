@@ -1,0 +1,19 @@
+-- `names::is_proper_path` meets its contract: the loop's invariant: the parts that are left decide, and each step makes them fewer.
+use mathlib.Core.Path.{◌≡◌, sym, ap, ◌∙◌}
+use native.Mathlib.Omega.{arith}
+use Prim.Native.Nat.{◌≤◌, ◌-◌}
+use lib.ListN.{length}
+use borrow.Author.Rules.{rules}
+use Rattle.names.proofs.CursorLaws.{Stepped, stepped_bounds, stepped_proper, left_bad, step_found, step_ends, step_fails, left_start, left_done}
+use Rattle.names.proofs.Laws.{no_parts, within_in, within_below, within_above}
+use Rattle.model.specs.Bytes.{view, ◌and◌}
+use Rattle.model.specs.Names.{proper_parts, proper_path}
+use Rattle.names.specs.Steps.{parts_left}
+use Rattle.names.proofs.is_proper_path.Given as goal
+
+abbrev pub invariant-loop-next : goal.invariant-loop-next
+invariant-loop-next l =
+    (l.c.at ≤ length l.path) × (proper_path (view l.path) (length l.path) ≡ proper_parts (view l.path) (parts_left (view l.path) (length l.path) l.c.at))
+
+abbrev pub decreases-loop-next : goal.decreases-loop-next
+decreases-loop-next l = length l.path - l.c.at

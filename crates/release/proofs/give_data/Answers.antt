@@ -1,0 +1,44 @@
+-- `release::give_data` meets its contract. A hole gives nothing back, another pointer one block.
+use native.Mathlib.Omega.{arith}
+use mathlib.Core.Path.{ap, sym, ◌∙◌}
+use Rattle.model.specs.Bytes.{view}
+use Rattle.model.specs.Directory.{map_place}
+use Rattle.model.specs.Map.{map_at}
+use Rattle.model.specs.Calls.{given_all}
+use Rattle.release.specs.Loose.{limb_at}
+use Rattle.release.proofs.Laws.{loose_head, loose_tail, limb_hole, limb_held, tree_leaf}
+use borrow.Author.Rules.{rules}
+use Rattle.release.proofs.give_data.Goals as goal
+
+pub get_pointer-p-requires : goal.get_pointer-p-requires
+get_pointer-p-requires c =
+    let a = c.args in
+    let on = (loose_head a.n a.key (limb_at (view a.img.now) 0 a.key a.i) c.requires.2).0 in
+    omega arith
+
+pub returns-then-p-eq0 : goal.returns-then-p-eq0
+unfolding given_all
+returns-then-p-eq0 c =
+    let a = c.args in
+    let v = view a.img.now in
+    let p = c.get_pointer-p in
+    sym (ap (given_all map_place v) (limb_hole v 0 a.key a.i p.result p.ensures.value c.if-p-eq0.true))
+
+pub give-requires : goal.give-requires
+unfolding map_at
+give-requires c =
+    let a = c.args in
+    let v = view a.img.now in
+    let p = c.get_pointer-p in
+    let one = limb_held v 0 a.key a.i p.result p.ensures.value c.if-p-eq0.false ∙ tree_leaf v p.result in
+    let on = (loose_head a.n p.result _ (rw one at (loose_tail a.n a.key (limb_at v 0 a.key a.i) c.requires.2))).0 in
+    omega arith
+
+pub returns : goal.returns
+unfolding given_all
+returns c =
+    let a = c.args in
+    let v = view a.img.now in
+    let p = c.get_pointer-p in
+    let one = limb_held v 0 a.key a.i p.result p.ensures.value c.if-p-eq0.false ∙ tree_leaf v p.result in
+    c.give.ensures ∙ sym (ap (given_all map_place v) one)

@@ -1,0 +1,29 @@
+-- `twins::descend` meets its contract. Each turn stands at the node to which so many bits lead, and no node on the way has the name.
+-- The measure is what is left of the nodes.
+use mathlib.Core.Path.{◌≡◌, refl, sym, ◌∙◌}
+use mathlib.Core.List.{List}
+use mathlib.Core.Bool.{Bool, true, false, false≢true}
+use Prim.Native.Nat.{ℕ, ◌+◌, ◌-◌, ◌<◌, ◌≤◌}
+use native.Mathlib.Numerals.{add-one}
+use native.Mathlib.Omega.{arith}
+use lib.ListN.{get_or}
+use Rattle.model.specs.Bytes.{Bytes, view}
+use Rattle.model.specs.Names.{alike}
+use Rattle.model.proofs.ByteLaws.{at_or_off}
+use Rattle.twins.specs.Twins.{key_of, child, walk, Alive, Tree, Lands}
+use Rattle.twins.proofs.TreeLaws.{none_before}
+use Rattle.twins.proofs.descend.Given as goal
+
+-- i bits of name k lead to a node, and none before it on the way has the name
+pub record On (f : Bytes) (xs : List ℕ) (k : ℕ) (l r : Bytes) (node i : ℕ) : Type 0 where
+  pub inside : node < k
+  pub late : i ≤ node
+  pub alive : Alive l r (key_of f xs k) i
+  pub there : walk l r (key_of f xs k) i ≡ node
+  pub unlike : (e : ℕ) → e < i → alike f (get_or xs (walk l r (key_of f xs k) e) 0) (get_or xs k 0) ≡ false
+
+abbrev pub invariant-loop-node : goal.invariant-loop-node
+invariant-loop-node l = On (view l.img) l.places l.k (view l.left) (view l.right) l.node l.i
+
+abbrev pub decreases-loop-node : goal.decreases-loop-node
+decreases-loop-node l = l.k - l.node
