@@ -1,6 +1,6 @@
 -- A tree of names: where a name's bits lead, and what attaching a node keeps. Assumes nothing.
 use Prim.Native.Nat.{ℕ, zero, suc, ◌+◌, ◌≤◌, ◌<◌}
-use mathlib.Core.Path.{◌≡◌, refl, sym, ap, ◌∙◌}
+use mathlib.Core.Path.{◌≡◌, refl, sym, ap, ◌∙◌, subst}
 use mathlib.Core.List.{List}
 use mathlib.Core.Bool.{Bool, true, false, false≢true}
 use native.Mathlib.Omega.{arith}
@@ -34,7 +34,7 @@ none_before f xs k l r d t e n j h = go (alike f (get_or xs j 0) (get_or xs k 0)
 
     go : (b : Bool) → alike f (get_or xs j 0) (get_or xs k 0) ≡ b → alike f (get_or xs j 0) (get_or xs k 0) ≡ false
     go true p =
-        let q : (c : ℕ) × Alive l r (key_of f xs k) c × (walk l r (key_of f xs k) c ≡ j) = rw (alike_bits f (get_or xs j 0) (get_or xs k 0) p) at (t.met j h) in
+        let q : (c : ℕ) × Alive l r (key_of f xs k) c × (walk l r (key_of f xs k) c ≡ j) = subst (λ b. (c : ℕ) × Alive l r b c × (walk l r b c ≡ j)) (alike_bits f (get_or xs j 0) (get_or xs k 0) p) (t.met j h) in
         absurd (meets p q.0 q.1 q.2)
     go false p = p
 

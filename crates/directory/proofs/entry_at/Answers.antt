@@ -10,6 +10,9 @@ use Rattle.directory.proofs.entry_at.Goals as goal
 pub overflow_add-end : goal.overflow_add-end
 overflow_add-end c = omega (arith, at_place c.args.place c.requires.0)
 
+pub slice_bounds-decode-end : goal.slice_bounds-decode-end
+slice_bounds-decode-end c = omega (arith, at_place c.args.place c.requires.0)
+
 pub returns : goal.returns
 returns c =
     let a = c.args in

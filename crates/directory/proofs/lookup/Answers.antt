@@ -16,6 +16,9 @@ use Rattle.directory.proofs.lookup.Goals as goal
 pub name_at-name-requires : goal.name_at-name-requires
 name_at-name-requires c = stepped_within _ _ _ _ _ _ (step_found _ _ _ _ _ _ (sym c.step.ensures ∙ c.in-Name.is))
 
+pub slice_bounds-same_name-end : goal.slice_bounds-same_name-end
+slice_bounds-same_name-end c = omega (arith, sane_blocks c.args.n (view c.args.img.now) c.requires.n_bound.2)
+
 pub returns-then-not-same_name : goal.returns-then-not-same_name
 returns-then-not-same_name c =
     let a = c.args in
@@ -41,7 +44,11 @@ follow-requires c =
     let w : Stepped (view xs) (length xs) 0 c.in-Name.start c.in-Name.end c.in-Name.next = step_found _ _ _ _ _ _ (sym (c.step.ensures ∙ o) ∙ c.in-Name.is) in
     let b = stepped_bounds _ _ _ _ _ _ w in
     let m : c.in-Name.end < length xs = omega (arith, c.if-end-path.false) in
-    (c.requires.n_bound, rw w.next (m, sym (stepped_proper _ _ _ _ _ _ w) ∙ path_proper xs c.requires.path_value))
+    record {
+      n_bound = c.requires.n_bound;
+      at_in_bounds = rw w.next m;
+      at_value = rw w.next (sym (stepped_proper _ _ _ _ _ _ w) ∙ path_proper xs c.requires.path_value);
+    }
 
 pub returns-else-end-path : goal.returns-else-end-path
 returns-else-end-path c =

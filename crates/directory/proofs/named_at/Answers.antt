@@ -19,6 +19,9 @@ entry_at-requires c = (c.requires.0, c.requires.1, c.requires.2.entry)
 pub overflow_add-end : goal.overflow_add-end
 overflow_add-end c = omega (arith, at_place c.args.place c.requires.0)
 
+pub slice_bounds-same_name-end : goal.slice_bounds-same_name-end
+slice_bounds-same_name-end c = omega (arith, at_place c.args.place c.requires.0)
+
 pub returns-then-same_name : goal.returns-then-same_name
 returns-then-same_name c =
     let a = c.args in

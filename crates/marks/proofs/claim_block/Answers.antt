@@ -32,5 +32,5 @@ returns c =
     let a = c.args in
     let g = c.give in
     let clear = marks_free a.seen.now a.b ∙ sym c.is_free.ensures ∙ c.if-is_free.false in
-    let mark = marked a.seen.now g.new.img a.b (λ x. omega (arith, c.type_inv.seen x)) g.ensures in
+    let mark = marked a.seen.now g.new.img a.b (λ x. omega (arith, c.slice_known-1.given x)) g.ensures in
     block_marked a.n a.b (marks a.seen.now) (marks g.new.img) c.if-b-n.false clear mark

@@ -28,8 +28,8 @@ loop-b-init c =
     let l = c.args.seen.now in
     let g = c.give in
     let g2 = c.give-2 in
-    let one = marked l g.new.img 0 (λ x. omega (arith, c.type_inv.seen x)) g.ensures in
-    let two = marked g.new.img g2.new.img 1 (λ x. omega (arith, c.type_inv.seen x)) g2.ensures in (
+    let one = marked l g.new.img 0 (λ x. omega (arith, c.slice_known-1.given x)) g.ensures in
+    let two = marked g.new.img g2.new.img 1 (λ x. omega (arith, c.slice_known-2-1.given x)) g2.ensures in (
       omega arith,
       omega arith,
       omega arith,

@@ -112,36 +112,38 @@ returns-then-next-eq0 c =
     c.child_of-next.ensures
     c.if-next-eq0.true
 
--- where a turn that goes on began
-abbrev began : tie.Else2 invariant-loop decreases-loop → tie.Start invariant-loop decreases-loop
-began c = c.before.before.before.before.before.before.before.before.before.before.before.before
-
-again : (c : tie.Else2 invariant-loop decreases-loop)
-    → (c.before.before.before.before.before.before.loop.node < c.before.child-of.result)
-    × On (view (began c).args.img.now) (began c).args.places.now (began c).args.k (view (began c).args.left.now) (view (began c).args.right.now)
-    c.before.child-of.result (c.before.before.before.before.before.before.loop.i + 1)
-again c =
-    let s = began c in
-    let o = c.before.before.before.before.before.before.loop in
-    goes (view s.args.img.now) s.args.places.now s.args.k (view s.args.left.now) (view s.args.right.now) o.node o.i o.invariant
-    c.before.before.before.before.same_at.result
-    c.before.before.before.before.same_at.ensures
-    c.before.before.before.if1.false
-    s.pre.1
-    c.before.before.bit_at.result
-    c.before.before.bit_at.ensures
-    c.before.child-of.result
-    c.before.child-of.ensures
-    c.if2.false
-
 pub overflow_add-i : goal.overflow_add-i
-overflow_add-i c = let o = c.loop-node.invariant in omega (arith, o.inside, o.late, (began c).ranges.k)
+overflow_add-i c = let o = c.loop-node.invariant in omega (arith, o.inside, o.late, c.ranges.k)
 
 pub loop-node-smaller : goal.loop-node-smaller
-loop-node-smaller c = let g = again c in omega (arith, g.0, g.1.inside)
+loop-node-smaller c =
+    let o = c.loop-node in
+    let g : (o.node < c.child_of-next.result) × On (view c.args.img.now) c.args.places.now c.args.k (view c.args.left.now) (view c.args.right.now) c.child_of-next.result (o.i + 1) =
+    goes (view c.args.img.now) c.args.places.now c.args.k (view c.args.left.now) (view c.args.right.now) o.node o.i o.invariant
+    c.same_at.result
+    c.same_at.ensures
+    c.if-same_at.false
+    c.requires.tree
+    c.bit_at-bit.result
+    c.bit_at-bit.ensures
+    c.child_of-next.result
+    c.child_of-next.ensures
+    c.if-next-eq0.false in
+    omega (arith, g.0, g.1.inside)
 
 pub loop-node-preserved : goal.loop-node-preserved
-loop-node-preserved c = (again c).1
+loop-node-preserved c =
+    let o = c.loop-node in
+    (goes (view c.args.img.now) c.args.places.now c.args.k (view c.args.left.now) (view c.args.right.now) o.node o.i o.invariant
+    c.same_at.result
+    c.same_at.ensures
+    c.if-same_at.false
+    c.requires.tree
+    c.bit_at-bit.result
+    c.bit_at-bit.ensures
+    c.child_of-next.result
+    c.child_of-next.ensures
+    c.if-next-eq0.false).1
 
 pub returns : goal.returns
 returns c = absurd (let w : ⊥ = omega (arith, c.loop-node.invariant.inside, c.loop-node-test.false) in w)

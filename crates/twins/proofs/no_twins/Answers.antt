@@ -70,8 +70,8 @@ loop-k-preserved c =
     let d = c.descend-spot in (
       omega arith,
       omega (arith, c.loop-k-test.true),
-      a.auto.0 ∙ o.invariant.2,
-      a.auto.1.0 ∙ o.invariant.3,
+      a.auto.left ∙ o.invariant.2,
+      a.auto.right ∙ o.invariant.3,
       rw (a.ensures.left_after, a.ensures.right_after)
           (tree_more (view s.img.now) s.places.now o.k (view o.left) (view o.right) d.result d.ensures o.invariant.4 c.if-spot.false),
       apart_more (view s.img.now) s.places.now o.k (view o.left) (view o.right) d.result d.ensures o.invariant.5 c.if-spot.false,

@@ -10,4 +10,4 @@ returns-then-img-a c =
     last_differs (view s.img.now) s.a s.b _ c.wide-size.ensures c.if-size-gt0.true c.if-img-a.true
 
 pub returns : goal.returns
-returns c = c.Alike_at.ensures
+returns c = c.alike_at.ensures

@@ -1,0 +1,16 @@
+-- `checks::active_between` meets its contract. The count and what is still to be counted are the whole. The measure is the places left.
+use mathlib.Core.Logic.{⊎_elim}
+use Rattle.checks.proofs.Laws.{active_more, active_same, active_end}
+use mathlib.Core.Path.{◌≡◌, sym, ◌∙◌}
+use Prim.Native.Nat.{◌+◌, ◌-◌, ◌≤◌}
+use native.Mathlib.Omega.{arith}
+use Rattle.model.specs.Bytes.{view, run}
+use Rattle.model.specs.Directory.{active}
+use borrow.Author.Rules.{rules}
+use Rattle.checks.proofs.active_between.Given as goal
+
+abbrev pub invariant-loop-place : goal.invariant-loop-place
+invariant-loop-place l = (l.place ≤ l.end) × (l.start ≤ l.place) × (l.count + active (view l.img) (run l.place (l.end - l.place)) ≡ active (view l.img) (run l.start (l.end - l.start))) × (l.count + l.start ≤ l.place)
+
+abbrev pub decreases-loop-place : goal.decreases-loop-place
+decreases-loop-place l = l.end - l.place

@@ -1,0 +1,51 @@
+-- `checks::alone_between` meets its contract. What is still to be compared decides. The measure is the places left.
+use Rattle.checks.proofs.Laws.{slot_in, alone_off, alone_next, alone_not, alone_end}
+use mathlib.Core.Bool.{Bool, true, false}
+use mathlib.Core.Logic.{⊎_elim}
+use Rattle.model.specs.Names.{alike}
+use mathlib.Core.Path.{◌≡◌, sym, ap, ◌∙◌}
+use Prim.Native.Nat.{◌-◌, ◌≤◌}
+use native.Mathlib.Omega.{arith}
+use lib.Dec.{eqb}
+use Rattle.model.specs.Bytes.{view, run}
+use Rattle.model.specs.Directory.{at}
+use Rattle.model.specs.Sound.{twins_of}
+use borrow.Author.Rules.{rules}
+use Rattle.checks.proofs.alone_between.Goals as goal
+
+pub alike_at-requires : goal.alike_at-requires
+alike_at-requires c =
+    let a = c.args in
+    let p = slot_in a.n a.place (omega arith) in
+    let q = slot_in a.n c.loop-other.other (omega arith) in
+    (omega arith, omega arith)
+
+pub returns-then-alike_at : goal.returns-then-alike_at
+returns-then-alike_at c =
+    let a = c.args in
+    let l = c.loop-other in
+    let v = view a.img.now in
+    let same : alike v (at a.place) (at l.other) ≡ true =
+    rw (← c.address-name.ensures, ← c.address.ensures) (sym c.Alike_at.ensures ∙ c.if-alike_at.true) in
+    sym (alone_not v a.place l.other a.end (omega arith) (sym c.is_active.ensures ∙ c.if-is_active.true) same) ∙ l.invariant.2
+
+pub loop-other-preserved : goal.loop-other-preserved
+loop-other-preserved c =
+    let a = c.args in
+    let l = c.loop-other in
+    let v = view a.img.now in
+    let other : (b : Bool) → b ≡ alike v c.address-name.result (at l.other) → b ≡ false → alike v (at a.place) (at l.other) ≡ false =
+    λ b e f. rw (← c.address-name.ensures) (sym e ∙ f) in (
+      omega arith,
+      omega arith,
+      ⊎_elim
+          (λ w. sym (alone_next v a.place l.other a.end (omega arith) (other _ (w.2.ensures ∙ ap (alike v _) w.1.ensures) w.3.left)) ∙ l.invariant.2)
+          (λ w. sym (alone_off v a.place l.other a.end (omega arith) (sym c.is_active.ensures ∙ w.left)) ∙ l.invariant.2)
+          c.if-is_active.branch,
+    )
+
+pub returns : goal.returns
+returns c =
+    let a = c.args in
+    let l = c.loop-other in
+    sym (alone_end (view a.img.now) a.place l.other a.end (omega arith)) ∙ l.invariant.2

@@ -1,0 +1,19 @@
+-- `checks::alone_in_blocks` meets its contract. What is still to be compared decides. The measure is the blocks left.
+use mathlib.Core.Path.{◌≡◌, refl, sym, ◌∙◌}
+use Prim.Native.Nat.{◌-◌}
+use native.Mathlib.Omega.{arith}
+use Rattle.model.specs.Bytes.{◌and◌, view}
+use Rattle.model.specs.Directory.{next, chain, slots}
+use Rattle.checks.specs.Inside.{Inside}
+use lib.Dec.{eqb}
+use borrow.Author.Tests.{not-true, not-false}
+use Rattle.model.specs.Sound.{twins_of}
+use Rattle.checks.proofs.Laws.{inside_chain, slots_chain, alone_append, alone_none}
+use borrow.Author.Rules.{rules}
+use Rattle.checks.proofs.alone_in_blocks.Given as goal
+
+abbrev pub invariant-loop-left : goal.invariant-loop-left
+invariant-loop-left l = Inside l.n (chain (view l.img) l.block l.left) × (eqb (twins_of (view l.img) l.place (slots (chain (view l.img) l.block l.left))) 0 ≡ eqb (twins_of (view l.img) l.place (slots (chain (view l.img) l.first l.blocks))) 0)
+
+abbrev pub decreases-loop-left : goal.decreases-loop-left
+decreases-loop-left l = l.left

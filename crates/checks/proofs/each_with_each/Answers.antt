@@ -1,0 +1,65 @@
+-- `checks::each_with_each` meets its contract. The slots behind the header, and those of the blocks after the first.
+use mathlib.Core.Path.{sym, ap, ◌∙◌}
+use Prim.Native.Nat.{◌-◌}
+use native.Mathlib.Omega.{arith}
+use Rattle.model.specs.Bytes.{◌and◌, view}
+use Rattle.model.specs.Directory.{chain, slots}
+use lib.Dec.{eqb}
+use lib.ListN.{drop}
+use Rattle.model.specs.Sound.{twins}
+use Rattle.checks.proofs.Laws.{inside_chain, entries_chain, no_slots}
+use borrow.Author.Rules.{rules}
+use Rattle.checks.proofs.each_with_each.Goals as goal
+
+pub returns-then-used-eq0 : goal.returns-then-used-eq0
+unfolding twins
+returns-then-used-eq0 c =
+    let a = c.args in
+    let v = view a.img.now in
+    sym (ap (λ l. eqb (twins v (drop 1 l)) 0) (no_slots v a.key a.used c.if-used-eq0.true))
+
+pub overflow_mul-key : goal.overflow_mul-key
+overflow_mul-key c =
+    let a = c.args in
+    let on = (inside_chain (view a.img.now) a.n a.key a.used (omega arith) c.requires.inside).0 in
+    omega arith
+
+pub overflow_add-key : goal.overflow_add-key
+overflow_add-key c =
+    let a = c.args in
+    let on = (inside_chain (view a.img.now) a.n a.key a.used (omega arith) c.requires.inside).0 in
+    omega arith
+
+pub unlike_from-requires : goal.unlike_from-requires
+unlike_from-requires c =
+    let a = c.args in
+    let here = inside_chain (view a.img.now) a.n a.key a.used (omega arith) c.requires.inside in record { readable = (c.requires.readable, omega arith, here.0); inside = here.1 }
+
+pub next_of-requires : goal.next_of-requires
+next_of-requires c =
+    let a = c.args in
+    let on = (inside_chain (view a.img.now) a.n a.key a.used (omega arith) c.requires.inside).0 in
+    omega arith
+
+pub unlike_in_blocks-requires : goal.unlike_in_blocks-requires
+unlike_in_blocks-requires c =
+    let a = c.args in
+    let after = (inside_chain (view a.img.now) a.n a.key a.used (omega arith) c.requires.inside).1 in record { readable = c.requires.readable; inside = rw c.next_of.ensures after }
+
+pub returns-then-unlike_from : goal.returns-then-unlike_from
+unfolding ◌and◌
+returns-then-unlike_from c =
+    let a = c.args in
+    let v = view a.img.now in
+    let all = ap (λ s. eqb (twins v s) 0) (entries_chain v a.key a.used (omega arith)) ∙ c.unlike_from.ensures in
+    c.unlike_in_blocks.ensures
+    ∙ ap (λ b. eqb (twins v (slots (chain v b (a.used - 1)))) 0) c.next_of.ensures
+    ∙ sym (rw c.if-unlike_from.true at all)
+
+pub returns-else-unlike_from : goal.returns-else-unlike_from
+unfolding ◌and◌
+returns-else-unlike_from c =
+    let a = c.args in
+    let v = view a.img.now in
+    let all = ap (λ s. eqb (twins v s) 0) (entries_chain v a.key a.used (omega arith)) ∙ c.unlike_from.ensures in
+    sym (rw c.if-unlike_from.false at all)

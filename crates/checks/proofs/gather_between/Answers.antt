@@ -1,0 +1,48 @@
+-- `checks::gather_between` meets its contract. What was gathered and what is still to be gathered are the whole. The measure is the places left.
+use mathlib.Core.Path.{◌≡◌, refl, sym, ◌∙◌}
+use mathlib.Core.List.{◌++◌}
+use mathlib.Core.Logic.{⊎_elim}
+use Prim.Native.Nat.{◌+◌, ◌-◌, ◌≤◌}
+use native.Mathlib.Omega.{arith}
+use lib.ListN.{length, take, length-set}
+use Rattle.model.specs.Bytes.{view, run}
+use Rattle.model.specs.Directory.{at, active}
+use Rattle.checks.specs.Inside.{actives}
+use Rattle.checks.proofs.Laws.{slot_in, active_more, active_same, active_end}
+use Rattle.checks.proofs.Gathered.{stored_on, stored_off, stored_end}
+use borrow.Author.Rules.{rules}
+use Rattle.checks.proofs.gather_between.Goals as goal
+
+pub loop-place-init : goal.loop-place-init
+loop-place-init c = (omega arith, refl, refl, refl)
+
+pub overflow_cast-list : goal.overflow_cast-list
+overflow_cast-list c = let p = slot_in c.args.n c.loop-place.place (omega arith) in omega arith
+
+pub loop-place-preserved : goal.loop-place-preserved
+loop-place-preserved c =
+    let a = c.args in
+    let l = c.loop-place in
+    let v = view a.img.now in
+    let t = c.is_active.ensures in
+    ⊎_elim
+    (λ w. let h = active_more v l.place a.end (omega arith) (sym t ∙ w.0.taken) in (
+      omega arith,
+      simp length-set (omega arith),
+      omega arith,
+      rw (w.1, c.address.ensures) (stored_on v l.place a.end (omega arith) l.list l.count (omega arith) (sym t ∙ w.0.taken) ∙ l.invariant.3),
+    ))
+    (λ w. let h = active_same v l.place a.end (omega arith) (sym t ∙ w.0.left) in (
+      omega arith,
+      simp length-set (omega arith),
+      omega arith,
+      rw (w.1, c.address.ensures) (stored_off v l.place a.end (omega arith) l.list l.count (omega arith) (sym t ∙ w.0.left) ∙ l.invariant.3),
+    ))
+    c.if-is_active.branch
+
+pub returns : goal.returns
+returns c =
+    let a = c.args in
+    let l = c.loop-place in
+    let v = view a.img.now in
+    let h = active_end v l.place a.end (omega arith) in record { value = omega arith; list_after = sym (stored_end v l.place a.end (omega arith) (take l.count l.list)) ∙ l.invariant.3 }

@@ -1,0 +1,20 @@
+-- `checks::gather_between` meets its contract. What was gathered and what is still to be gathered are the whole. The measure is the places left.
+use mathlib.Core.Path.{◌≡◌, refl, sym, ◌∙◌}
+use mathlib.Core.List.{◌++◌}
+use mathlib.Core.Logic.{⊎_elim}
+use Prim.Native.Nat.{◌+◌, ◌-◌, ◌≤◌}
+use native.Mathlib.Omega.{arith}
+use lib.ListN.{length, take, length-set}
+use Rattle.model.specs.Bytes.{view, run}
+use Rattle.model.specs.Directory.{at, active}
+use Rattle.checks.specs.Inside.{actives}
+use Rattle.checks.proofs.Laws.{slot_in, active_more, active_same, active_end}
+use Rattle.checks.proofs.Gathered.{stored_on, stored_off, stored_end}
+use borrow.Author.Rules.{rules}
+use Rattle.checks.proofs.gather_between.Given as goal
+
+abbrev pub invariant-loop-place : goal.invariant-loop-place
+invariant-loop-place l = (l.place ≤ l.end) × (length l.list ≡ length l.initial.list) × (l.count + active (view l.img) (run l.place (l.end - l.place)) ≡ l.at + active (view l.img) (run l.start (l.end - l.start))) × (take l.count l.list ++ actives (view l.img) (run l.place (l.end - l.place)) ≡ take l.at l.initial.list ++ actives (view l.img) (run l.start (l.end - l.start)))
+
+abbrev pub decreases-loop-place : goal.decreases-loop-place
+decreases-loop-place l = l.end - l.place

@@ -1,0 +1,65 @@
+-- `checks::gather_entries` meets its contract. The slots behind the header, and those of the blocks after the first.
+use mathlib.Core.Path.{◌≡◌, sym, ap, ◌∙◌}
+use mathlib.Core.List.{◌++◌}
+use Prim.Native.Nat.{◌+◌, ◌-◌, ◌*◌}
+use native.Mathlib.Omega.{arith}
+use Rattle.model.specs.Bytes.{view, run}
+use Rattle.model.specs.Directory.{active, next, chain, slots}
+use Rattle.checks.specs.Inside.{actives}
+use Rattle.checks.proofs.Laws.{inside_chain, entries_chain, active_ahead}
+use Rattle.checks.proofs.Gathered.{actives_ahead}
+use borrow.Author.Rules.{rules}
+use Rattle.checks.proofs.gather_entries.Goals as goal
+
+pub overflow_mul-start : goal.overflow_mul-start
+overflow_mul-start c =
+    let a = c.args in
+    let on = (inside_chain (view a.img.now) a.n a.key a.used (omega arith) c.requires.readable.1).0 in
+    omega arith
+
+pub overflow_add-start : goal.overflow_add-start
+overflow_add-start c =
+    let a = c.args in
+    let on = (inside_chain (view a.img.now) a.n a.key a.used (omega arith) c.requires.readable.1).0 in
+    omega arith
+
+pub overflow_add-start-2 : goal.overflow_add-start-2
+overflow_add-start-2 c =
+    let a = c.args in
+    let on = (inside_chain (view a.img.now) a.n a.key a.used (omega arith) c.requires.readable.1).0 in
+    omega arith
+
+pub gather_between-count-requires : goal.gather_between-count-requires
+gather_between-count-requires c =
+    let a = c.args in
+    let v = view a.img.now in
+    let on = (inside_chain v a.n a.key a.used (omega arith) c.requires.readable.1).0 in
+    let all = ap (active v) (entries_chain v a.key a.used (omega arith)) ∙ active_ahead v (a.key * 13 + 1) a.key (a.used - 1) in record { readable = (c.requires.readable.0, omega arith, omega arith); start_in_bounds = omega arith }
+
+pub next_of-requires : goal.next_of-requires
+next_of-requires c =
+    let a = c.args in
+    let on = (inside_chain (view a.img.now) a.n a.key a.used (omega arith) c.requires.readable.1).0 in
+    omega arith
+
+pub gather_in_blocks-requires : goal.gather_in_blocks-requires
+gather_in_blocks-requires c =
+    let a = c.args in
+    let v = view a.img.now in
+    let after = (inside_chain v a.n a.key a.used (omega arith) c.requires.readable.1).1 in
+    let all = ap (active v) (entries_chain v a.key a.used (omega arith)) ∙ active_ahead v (a.key * 13 + 1) a.key (a.used - 1) in
+    rw c.next_of.ensures record { readable = (c.requires.readable.0, after); blocks_in_bounds = omega arith }
+
+pub returns : goal.returns
+returns c =
+    let a = c.args in
+    let v = view a.img.now in
+    let b = c.next_of.result in
+    let first = entries_chain v a.key a.used (omega arith) in
+    let all = ap (active v) first ∙ active_ahead v (a.key * 13 + 1) a.key (a.used - 1) in
+    let gathered = ap (actives v) first ∙ actives_ahead v (a.key * 13 + 1) a.key (a.used - 1) in
+    let after : active v (slots (chain v b (a.used - 1))) ≡ active v (slots (chain v (next v a.key) (a.used - 1))) =
+    ap (λ b. active v (slots (chain v b (a.used - 1)))) c.next_of.ensures in record { value = omega arith; list_after = c.gather_in_blocks.ensures.list_after
+          ∙ ap (λ z. z ++ actives v (slots (chain v b (a.used - 1)))) c.gather_between-count.ensures.list_after
+          ∙ ap (λ b. actives v (run (a.key * 13 + 1) (a.key * 13 + 13 - (a.key * 13 + 1))) ++ actives v (slots (chain v b (a.used - 1)))) c.next_of.ensures
+          ∙ sym gathered }

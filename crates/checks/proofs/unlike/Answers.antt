@@ -1,0 +1,7 @@
+-- `checks::unlike` meets its contract.
+use native.Mathlib.Omega.{arith}
+use borrow.Author.Rules.{rules}
+use Rattle.checks.proofs.unlike.Goals as goal
+
+pub unlike_by_tree-requires : goal.unlike_by_tree-requires
+unlike_by_tree-requires c = ((search rules), (omega arith, (omega arith, omega arith)))

@@ -1,0 +1,19 @@
+-- `file::read_bytes` meets its contract. After each turn the first bytes of the buffer are the file's, as many as are done.
+use mathlib.Core.Path.{◌≡◌, refl, sym, ap, ◌∙◌}
+use Prim.Native.Nat.{◌+◌, ◌-◌, ◌%◌, ◌≤◌}
+use native.Mathlib.Omega.{arith}
+use lib.ListN.{length}
+use Rattle.model.specs.Bytes.{view, paste, from}
+use Rattle.model.specs.File.{file_byte}
+use Rattle.model.proofs.ByteLaws.{paste_none}
+use Rattle.file.specs.Runs.{run_in}
+use Rattle.file.proofs.Laws.{run_on}
+use borrow.Author.Rules.{rules}
+use Rattle.file.proofs.read_bytes.Given as goal
+
+abbrev pub invariant-loop-done : goal.invariant-loop-done
+invariant-loop-done l =
+    (l.done ≤ l.count) × (length l.buffer ≡ length l.initial.buffer) × (view l.buffer ≡ paste (view l.initial.buffer) 0 l.done (from (file_byte (view l.img) l.height l.key) l.position))
+
+abbrev pub decreases-loop-done : goal.decreases-loop-done
+decreases-loop-done l = l.count - l.done
