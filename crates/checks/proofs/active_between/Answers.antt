@@ -1,5 +1,4 @@
 -- `checks::active_between` meets its contract. The count and what is still to be counted are the whole. The measure is the places left.
-use mathlib.Core.Logic.{⊎_elim}
 use Rattle.checks.proofs.Laws.{active_more, active_same, active_end}
 use mathlib.Core.Path.{◌≡◌, sym, ◌∙◌}
 use Prim.Native.Nat.{◌+◌, ◌-◌, ◌≤◌}
@@ -8,6 +7,7 @@ use Rattle.model.specs.Bytes.{view, run}
 use Rattle.model.specs.Directory.{active}
 use borrow.Author.Rules.{rules}
 use Rattle.checks.proofs.active_between.Goals as goal
+use Rattle.checks.proofs.active_between.Goals.{then-is_active, else-is_active}
 
 pub loop-place-preserved : goal.loop-place-preserved
 loop-place-preserved c =
@@ -15,10 +15,10 @@ loop-place-preserved c =
     let v = view a.img.now in
     let s = c.loop-place.place in
     let t = c.is_active.ensures in
-    ⊎_elim
-    (λ w. let h = active_more v s a.end (omega arith) (sym t ∙ w.0.taken) in (omega arith, omega arith, omega arith, omega arith))
-    (λ w. let h = active_same v s a.end (omega arith) (sym t ∙ w.0.left) in (omega arith, omega arith, omega arith, omega arith))
-    c.if-is_active.branch
+    elim c.if-is_active.branch [
+      | then-is_active w ↦ let h = active_more v s a.end (omega arith) (sym t ∙ w.if-is_active.true) in (omega arith, omega arith, omega arith, omega arith)
+      | else-is_active w ↦ let h = active_same v s a.end (omega arith) (sym t ∙ w.if-is_active.false) in (omega arith, omega arith, omega arith, omega arith)
+    ]
 
 pub returns : goal.returns
 returns c =

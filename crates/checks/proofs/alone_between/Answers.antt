@@ -1,7 +1,6 @@
 -- `checks::alone_between` meets its contract. What is still to be compared decides. The measure is the places left.
 use Rattle.checks.proofs.Laws.{slot_in, alone_off, alone_next, alone_not, alone_end}
 use mathlib.Core.Bool.{Bool, true, false}
-use mathlib.Core.Logic.{⊎_elim}
 use Rattle.model.specs.Names.{alike}
 use mathlib.Core.Path.{◌≡◌, sym, ap, ◌∙◌}
 use Prim.Native.Nat.{◌-◌, ◌≤◌}
@@ -12,6 +11,7 @@ use Rattle.model.specs.Directory.{at}
 use Rattle.model.specs.Sound.{twins_of}
 use borrow.Author.Rules.{rules}
 use Rattle.checks.proofs.alone_between.Goals as goal
+use Rattle.checks.proofs.alone_between.Goals.{then-is_active+else-alike_at, else-is_active}
 
 pub alike_at-requires : goal.alike_at-requires
 alike_at-requires c =
@@ -26,7 +26,7 @@ returns-then-alike_at c =
     let l = c.loop-other in
     let v = view a.img.now in
     let same : alike v (at a.place) (at l.other) ≡ true =
-    rw (← c.address-name.ensures, ← c.address.ensures) (sym c.Alike_at.ensures ∙ c.if-alike_at.true) in
+    rw (← c.address-name.ensures, ← c.address.ensures) (sym c.alike_at.ensures ∙ c.if-alike_at.true) in
     sym (alone_not v a.place l.other a.end (omega arith) (sym c.is_active.ensures ∙ c.if-is_active.true) same) ∙ l.invariant.2
 
 pub loop-other-preserved : goal.loop-other-preserved
@@ -38,10 +38,10 @@ loop-other-preserved c =
     λ b e f. rw (← c.address-name.ensures) (sym e ∙ f) in (
       omega arith,
       omega arith,
-      ⊎_elim
-          (λ w. sym (alone_next v a.place l.other a.end (omega arith) (other _ (w.2.ensures ∙ ap (alike v _) w.1.ensures) w.3.left)) ∙ l.invariant.2)
-          (λ w. sym (alone_off v a.place l.other a.end (omega arith) (sym c.is_active.ensures ∙ w.left)) ∙ l.invariant.2)
-          c.if-is_active.branch,
+      elim c.if-is_active.branch [
+        | then-is_active+else-alike_at w ↦ sym (alone_next v a.place l.other a.end (omega arith) (other _ (w.alike_at.ensures ∙ ap (alike v _) w.address.ensures) w.if-alike_at.false)) ∙ l.invariant.2
+        | else-is_active w ↦ sym (alone_off v a.place l.other a.end (omega arith) (sym c.is_active.ensures ∙ w.if-is_active.false)) ∙ l.invariant.2
+      ],
     )
 
 pub returns : goal.returns

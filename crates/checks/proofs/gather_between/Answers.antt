@@ -1,7 +1,6 @@
 -- `checks::gather_between` meets its contract. What was gathered and what is still to be gathered are the whole. The measure is the places left.
 use mathlib.Core.Path.{◌≡◌, refl, sym, ◌∙◌}
 use mathlib.Core.List.{◌++◌}
-use mathlib.Core.Logic.{⊎_elim}
 use Prim.Native.Nat.{◌+◌, ◌-◌, ◌≤◌}
 use native.Mathlib.Omega.{arith}
 use lib.ListN.{length, take, length-set}
@@ -12,6 +11,7 @@ use Rattle.checks.proofs.Laws.{slot_in, active_more, active_same, active_end}
 use Rattle.checks.proofs.Gathered.{stored_on, stored_off, stored_end}
 use borrow.Author.Rules.{rules}
 use Rattle.checks.proofs.gather_between.Goals as goal
+use Rattle.checks.proofs.gather_between.Goals.{then-is_active, else-is_active}
 
 pub loop-place-init : goal.loop-place-init
 loop-place-init c = (omega arith, refl, refl, refl)
@@ -25,20 +25,20 @@ loop-place-preserved c =
     let l = c.loop-place in
     let v = view a.img.now in
     let t = c.is_active.ensures in
-    ⊎_elim
-    (λ w. let h = active_more v l.place a.end (omega arith) (sym t ∙ w.0.taken) in (
-      omega arith,
-      simp length-set (omega arith),
-      omega arith,
-      rw (w.1, c.address.ensures) (stored_on v l.place a.end (omega arith) l.list l.count (omega arith) (sym t ∙ w.0.taken) ∙ l.invariant.3),
-    ))
-    (λ w. let h = active_same v l.place a.end (omega arith) (sym t ∙ w.0.left) in (
-      omega arith,
-      simp length-set (omega arith),
-      omega arith,
-      rw (w.1, c.address.ensures) (stored_off v l.place a.end (omega arith) l.list l.count (omega arith) (sym t ∙ w.0.left) ∙ l.invariant.3),
-    ))
-    c.if-is_active.branch
+    elim c.if-is_active.branch [
+      | then-is_active w ↦ let h = active_more v l.place a.end (omega arith) (sym t ∙ w.if-is_active.true) in (
+        omega arith,
+        simp length-set (omega arith),
+        omega arith,
+        rw (w.count-is, c.address.ensures) (stored_on v l.place a.end (omega arith) l.list l.count (omega arith) (sym t ∙ w.if-is_active.true) ∙ l.invariant.3),
+      )
+      | else-is_active w ↦ let h = active_same v l.place a.end (omega arith) (sym t ∙ w.if-is_active.false) in (
+        omega arith,
+        simp length-set (omega arith),
+        omega arith,
+        rw (w.count-is, c.address.ensures) (stored_off v l.place a.end (omega arith) l.list l.count (omega arith) (sym t ∙ w.if-is_active.false) ∙ l.invariant.3),
+      )
+    ]
 
 pub returns : goal.returns
 returns c =

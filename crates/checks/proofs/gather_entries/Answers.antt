@@ -59,7 +59,10 @@ returns c =
     let all = ap (active v) first ∙ active_ahead v (a.key * 13 + 1) a.key (a.used - 1) in
     let gathered = ap (actives v) first ∙ actives_ahead v (a.key * 13 + 1) a.key (a.used - 1) in
     let after : active v (slots (chain v b (a.used - 1))) ≡ active v (slots (chain v (next v a.key) (a.used - 1))) =
-    ap (λ b. active v (slots (chain v b (a.used - 1)))) c.next_of.ensures in record { value = omega arith; list_after = c.gather_in_blocks.ensures.list_after
+    ap (λ b. active v (slots (chain v b (a.used - 1)))) c.next_of.ensures in record {
+      value = omega arith;
+      list_after = c.gather_in_blocks.ensures.list_after
           ∙ ap (λ z. z ++ actives v (slots (chain v b (a.used - 1)))) c.gather_between-count.ensures.list_after
           ∙ ap (λ b. actives v (run (a.key * 13 + 1) (a.key * 13 + 13 - (a.key * 13 + 1))) ++ actives v (slots (chain v b (a.used - 1)))) c.next_of.ensures
-          ∙ sym gathered }
+          ∙ sym gathered;
+    }

@@ -39,4 +39,4 @@ returns c =
       ← c.points_at.ensures,
       c.if-not-points_at.false,
       ← c.address.ensures,
-    ) c.Alike_at.ensures
+    ) c.alike_at.ensures

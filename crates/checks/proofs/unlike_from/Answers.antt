@@ -4,13 +4,13 @@ use Prim.Native.Nat.{◌+◌, ◌-◌, ◌*◌, ◌≤◌}
 use native.Mathlib.Omega.{arith}
 use Rattle.model.specs.Bytes.{◌and◌, view}
 use lib.Dec.{eqb}
-use mathlib.Core.Logic.{⊎_elim}
 use borrow.Author.Tests.{not-true, not-false}
 use Rattle.model.specs.Sound.{twins}
 use Rattle.checks.specs.Inside.{ahead}
 use Rattle.checks.proofs.Laws.{ahead_end, unlike_skip, unlike_more, unlike_not}
 use borrow.Author.Rules.{rules}
 use Rattle.checks.proofs.unlike_from.Goals as goal
+use Rattle.checks.proofs.unlike_from.Goals.{then-is_active+else-not-alone_ahead, else-is_active}
 
 pub loop-place-init : goal.loop-place-init
 loop-place-init c = (omega arith, refl, refl)
@@ -35,10 +35,10 @@ loop-place-preserved c =
     let t = c.is_active.ensures in (
       omega arith,
       l.invariant.1,
-      ⊎_elim
-          (λ w. sym (unlike_more v l.place a.block a.after (omega arith) (sym t ∙ w.0.taken) (sym w.1.ensures ∙ not-false w.1.result w.2.left)) ∙ l.invariant.2)
-          (λ w. sym (unlike_skip v l.place a.block a.after (omega arith) (sym t ∙ w.left)) ∙ l.invariant.2)
-          c.if-is_active.branch,
+      elim c.if-is_active.branch [
+        | then-is_active+else-not-alone_ahead w ↦ sym (unlike_more v l.place a.block a.after (omega arith) (sym t ∙ w.if-is_active.true) (sym w.alone_ahead.ensures ∙ w.if-not-alone_ahead.false)) ∙ l.invariant.2
+        | else-is_active w ↦ sym (unlike_skip v l.place a.block a.after (omega arith) (sym t ∙ w.if-is_active.false)) ∙ l.invariant.2
+      ],
     )
 
 pub returns : goal.returns

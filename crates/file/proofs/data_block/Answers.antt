@@ -9,7 +9,7 @@ block_in_index-requires c = (omega arith, omega arith, rw c.in-1.is at c.require
 
 pub block_in_master-requires : goal.block_in_master-requires
 block_in_master-requires c =
-    let e : c.args.height ≡ 2 = omega (arith, c.in_default.rest.0.1, c.in_default.rest.1) in
+    let e : c.args.height ≡ 2 = omega (arith, c.in_default.in_default-own.rest.0.1, c.in_default.in_default-own.rest.1) in
     (omega arith, omega arith, rw e at c.requires.3)
 
 pub returns-in-0 : goal.returns-in-0
@@ -21,6 +21,6 @@ returns-in-1 c = rw c.in-1.is c.block_in_index.ensures
 
 pub returns-in_default : goal.returns-in_default
 returns-in_default c =
-    let m = c.in_default.rest in
+    let m = c.in_default.in_default-own.rest in
     let e : c.args.height ≡ 2 = omega (arith, m.0.1, m.1) in
     rw e c.block_in_master.ensures
