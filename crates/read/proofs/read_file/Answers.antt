@@ -1,6 +1,5 @@
 -- `read::read_file` meets its contract: each refusal is one row of the table, in its order; then the file's bytes.
 use mathlib.Core.Path.{sym, ap, ◌∙◌}
-use mathlib.Core.Logic.{⊎_elim}
 use lib.ListN.{length}
 use native.Mathlib.Omega.{arith}
 use borrow.Author.Rules.{rules}
@@ -12,6 +11,7 @@ use Rattle.read.proofs.ReadLaws.{folder_number}
 use Rattle.opening.proofs.EntryLaws.{folder, no_folder}
 use Rattle.read.proofs.CodeLaws.{number_locked, number_far, number_end, number_none, entry_no, entry_moved}
 use Rattle.read.proofs.read_file.Goals as goal
+use Rattle.read.proofs.read_file.Goals.{then-size-ge1+else-position-eof, else-size-ge1}
 
 pub returns-then-height-eq3 : goal.returns-then-height-eq3
 returns-then-height-eq3 c =
@@ -51,10 +51,10 @@ returns c =
     let l = a.buffer.now in
     let v = view a.img.now in
     let f = no_folder a.entry.kind (λ e. c.if-height-eq3.false (c.height_of-height.ensures ∙ e)) in
-    let z = number_none a.entry a.position (length l) f c.if-entry-eq0.false c.if-eof-position.false (λ s p. ⊎_elim (λ w. w.1.left p) (λ w. omega arith) c.if-size-ge1.branch) in
+    let z = number_none a.entry a.position (length l) f c.if-entry-eq0.false c.if-eof-position.false (λ s p. elim c.if-size-ge1.branch [ then-size-ge1+else-position-eof w ↦ w.if-position-eof.false p | else-size-ge1 w ↦ omega arith ]) in
     let k = c.least-count.result in
     let b =
     c.read_bytes.ensures
     ∙ ap (λ h. paste (view l) 0 k (from (file_byte v h c.key_of.result) a.position)) c.height_of-height.ensures
     ∙ ap (λ y. paste (view l) 0 k (from (file_byte v (height_of a.entry.kind) y) a.position)) c.key_of.ensures in
-    entry_moved v a.entry a.position l k _ z c.least-count.ensures c.read_bytes.auto.1.1.1.1.1.0 b
+    entry_moved v a.entry a.position l k _ z c.least-count.ensures c.read_bytes.auto.buffer b
