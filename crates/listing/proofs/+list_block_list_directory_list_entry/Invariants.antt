@@ -18,13 +18,13 @@ use Prim.Native.Nat.{ℕ, ◌+◌, ◌-◌, ◌*◌, ◌/◌, ◌≤◌, ◌<◌
 use Rattle.listing.proofs.+list_block_list_directory_list_entry.Given as goal
 
 abbrev pub decreases-list_block : goal.decreases-list_block
-decreases-list_block l = ?  -- μ-list-block κs a = 3 * a.1.1.1.0 + 1
+decreases-list_block l = 3 * l.levels + 1
 
 abbrev pub decreases-list_directory : goal.decreases-list_directory
-decreases-list_directory l = ?  -- μ-list-directory κs a = 3 * a.1.1.1.0 + 2
+decreases-list_directory l = 3 * l.levels + 2
 
 abbrev pub decreases-list_entry : goal.decreases-list_entry
-decreases-list_entry l = ?  -- μ-list-entry κs a = 3 * a.1.1.0
+decreases-list_entry l = 3 * l.levels
 
 abbrev pub invariant-list_block-loop-slot : goal.invariant-list_block-loop-slot
 invariant-list_block-loop-slot l =
