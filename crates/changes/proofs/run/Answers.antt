@@ -21,7 +21,7 @@ pub write-requires : goal.write-requires
 write-requires c =
     let a = c.args in
     let p = c.requires in
-    let fit = fits_by a.values.now (ap command.Change c.enum_told-1.given.1) refl p.0 in
+    let fit = fits_by a.values.now (ap command.Change c.in-Write.is) refl p.0 in
     (p.1, fit 0 (omega arith), fit 2 (omega arith), fit 3 (omega arith), fit 4 (omega arith))
 
 pub fill-requires : goal.fill-requires
@@ -35,7 +35,7 @@ pub set-requires : goal.set-requires
 set-requires c =
     let a = c.args in
     let p = c.requires in
-    let fit = fits_by a.values.now (ap command.Change c.enum_told-in-Set-1.given.1) refl p.0 in
+    let fit = fits_by a.values.now (ap command.Change c.in-Set.is) refl p.0 in
     (fit 0 (omega arith), fit 1 (omega arith))
 
 pub set_run-requires : goal.set_run-requires
@@ -65,7 +65,7 @@ returns-in-Write c =
     let bs = a.buffer.now in
     let n = length a.img.now in
     let v = view a.img.now in
-    rw c.enum_told-1.given.1 (writes_leaves (written n v (held vs ts bs)) bs refl c.write.ensures c.say_transfer.ensures)
+    rw c.in-Write.is (writes_leaves (written n v (held vs ts bs)) bs refl c.write.ensures c.say_transfer.ensures)
 
 pub returns-in-Fill : goal.returns-in-Fill
 unfolding changed
@@ -73,7 +73,7 @@ returns-in-Fill c = rw c.in-Fill.is c.fill.ensures
 
 pub returns-in-Set : goal.returns-in-Set
 unfolding changed laid_in
-returns-in-Set c = rw c.enum_told-in-Set-1.given.1 c.set.ensures
+returns-in-Set c = rw c.in-Set.is c.set.ensures
 
 pub returns-in-SetRun : goal.returns-in-SetRun
 unfolding changed laid_in
