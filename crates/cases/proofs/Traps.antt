@@ -1,5 +1,5 @@
 -- "Traps for the trainee" that no worked case reaches: a second small table, computed like the first.
-use Prim.Native.Nat.{ℕ, ◌+◌, ◌*◌}
+use Prim.Native.Nat.{ℕ, ◌+◌}
 use mathlib.Core.Path.{◌≡◌, refl}
 use mathlib.Core.List.{List, [], ◌∷◌}
 use mathlib.Core.Bool.{Bool, true}
@@ -9,7 +9,7 @@ use Rattle.model.specs.Refusals.{Outcome}
 use Rattle.model.specs.Calls.{Nothing}
 use Rattle.model.specs.Catalog.{catalog, decimal_before, hex_digit, text, line, first_line, listing, refused_line, too_large_line}
 use Rattle.cases.proofs.Computing.{computing}
-use Rattle.cases.proofs.Cases.{◌says◌, all, LOG, D1, fresh, make_file, write_to, read_from, set_eof_of, two, three, unused, abc, counting, after2, cases}
+use Rattle.cases.proofs.Cases.{◌says◌, all, LOG, D1, write_to, read_from, set_eof_of, two, three, unused, abc, counting, after2, cases}
 
 -- Old bytes past EOF: LOG has ABC; EOF 1, then EOF 3 again, or one byte more written: B and C do not come back.
 old_bytes : Bytes → List Bool

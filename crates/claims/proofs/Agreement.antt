@@ -12,7 +12,7 @@ use borrow.Author.Tests.{eqb-true, ltb-true, ltb-false, leb-true, leb-false, ne_
 use lib.Dec.{eqb, ltb, leb}
 use Rattle.model.specs.Bytes.{Bytes, sum, count, gather, run, one_if, is, unless, within, ◌and◌, ◌or◌}
 use Rattle.model.specs.Map.{map_blocks, weight, bit, map_at, free, rest_clear}
-use Rattle.model.specs.Directory.{Sort, inactive, directory, improper, file, sort, at, directory_type, map_place, map_block, next, ftype, key, used, eof, chain, kids}
+use Rattle.model.specs.Directory.{Sort, inactive, directory, improper, file, sort, directory_type, map_place, map_block, next, ftype, key, used, eof, chain, kids}
 use Rattle.model.specs.File.{Node, nodes, limb, pointer, blocks_in, first_below, span, blocks_of, blocks}
 use Rattle.model.specs.Walk.{Visit, visits}
 use Rattle.model.specs.Sound.{proper_size, prodos, links, outside, late, twins, top_faults, faults_of, faults, directory_faults, file_faults, owned, sound}

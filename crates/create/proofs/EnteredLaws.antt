@@ -88,7 +88,9 @@ module _ (n : ℕ) (v : Bytes) (d : ℕ) where
   number a b e f = rw (f, e, create_need) refl
 
   no_and : (a : Bool) → (a and false) ≡ false
-  no_and a = unfold ◌and◌ in elim a [ true ↦ refl | false ↦ refl ]
+  unfolding ◌and◌
+  no_and true = refl
+  no_and false = refl
 
   slot_number : (s : ℕ) → vacant v (kids v d) ≡ some s → in_number ≡ first (row (ltb (room map_place v n) 1) 0x48 ∷ [])
   slot_number s e = number (eqb d volume) false (unfold is_full in ap is_full e) refl ∙ first_passes (row (eqb d volume and false) 0x49) _ (no_and (eqb d volume))

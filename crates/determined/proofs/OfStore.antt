@@ -18,8 +18,8 @@ use Rattle.store.proofs.all_zero.Reads as all-zero-reads
 use Rattle.store.proofs.all_zero.Kinds as all-zero-kinds
 use Rattle.store.proofs.put_byte.Reads as put-byte-reads
 use Rattle.store.proofs.put_byte.Kinds as put-byte-kinds
-use Rattle.store.proofs.put_word_law.Reads as put-word-reads
-use Rattle.store.proofs.put_word_law.Kinds as put-word-kinds
+use Rattle.store.proofs.put_word.Reads as put-word-reads
+use Rattle.store.proofs.put_word.Kinds as put-word-kinds
 use Rattle.store.proofs.put_long.Reads as put-long-reads
 use Rattle.store.proofs.put_long.Kinds as put-long-kinds
 use Rattle.store.proofs.copy_run.Reads as copy-run-reads

@@ -1,7 +1,7 @@
 -- A sound volume can be looked through: every directory that a path can lead to has its chain on the volume and proper slots.
 use Prim.Native.Nat.{ℕ, ◌<◌}
 use mathlib.Core.Path.{◌≡◌}
-use mathlib.Core.List.{List, ◌∷◌, Memᴰ}
+use mathlib.Core.List.{List, [], ◌∷◌, Memᴰ}
 use mathlib.Core.Bool.{true}
 use Rattle.model.specs.Bytes.{Bytes}
 use Rattle.model.specs.Directory.{volume, directory, sort, key, used, chain, slots, slots_below, kids}
@@ -14,10 +14,12 @@ use Rattle.directory.specs.Search.{Each, listed, Searchable}
 use Rattle.directory.specs.Lookup.{Reached, top, below, Sane}
 
 among : (s : ℕ) (ss : List ℕ) → Memᴰ s ss → met.Among s ss
+among s [] m = elim m [ ]
 among s (t ∷ ss) (Memᴰ.head e) = rw e met.Among.here
 among s (t ∷ ss) (Memᴰ.tail m) = met.Among.later (among s ss m)
 
 each_inside : (n : ℕ) (bs : List ℕ) → met.Inside n bs → Each (λ b. b < n) bs
+each_inside n [] h x m = elim m [ ]
 each_inside n (b ∷ bs) h x (Memᴰ.head e) = rw e h.0
 each_inside n (b ∷ bs) h x (Memᴰ.tail m) = each_inside n bs h.1 x m
 

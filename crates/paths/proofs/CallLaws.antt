@@ -1,7 +1,7 @@
 -- What each call leaves of the ways, of the names along them, and so of the paths; and that rename and set info keep the bytes of the file that
 -- they name.
 use Prim.Native.Nat.{ℕ}
-use mathlib.Core.Path.{◌≡◌, refl, sym, ◌∙◌}
+use mathlib.Core.Path.{◌≡◌, refl, sym, subst, ◌∙◌}
 use mathlib.Core.List.{List, ◌∷◌}
 use mathlib.Core.Bool.{true}
 use Rattle.model.specs.Bytes.{Bytes, Octets, count}
@@ -11,7 +11,7 @@ use Rattle.model.specs.Sound.{sound}
 use Rattle.model.specs.Refusals.{settle}
 use Rattle.model.specs.Calls.{total, target, home, spot, nothing}
 use Rattle.model.specs.Create.{Wanted, create}
-use Rattle.model.specs.Destroy.{destroy}
+use Rattle.model.specs.Destroy.{destroyed, destroy}
 use Rattle.model.specs.Rename.{renamed, rename_number, rename}
 use Rattle.model.specs.Info.{set_info}
 use Rattle.model.specs.Write.{write}
@@ -69,7 +69,9 @@ module _ (len : ℕ) (v p : Bytes) (k : ℕ) (octets : Octets v) (S : sound (tot
   unfolding destroy
   destroy_ways xs s n w =
       settled _ _ v _ _ (λ u. WayStays v u xs s) (w, refl)
-      (λ e. let D = done len v p k octets S e in rw D.sound.place (gone_stays D xs s n w))
+      (λ e.
+      let D = done len v p k octets S e in
+      subst (λ m. WayStays v (destroyed m v (home (target v p k)) (spot (target v p k))) xs s) (sym D.sound.place) (gone_stays D xs s n w))
 
 -- Set info.
 module _ (len : ℕ) (v p : Bytes) (k access aux : ℕ) (t : Stamp) (S : sound (total len) v ≡ true) where
@@ -93,7 +95,7 @@ module _ (len : ℕ) (v p : Bytes) (k pos : ℕ) (buffer : Bytes) (size : ℕ) (
   write_ways =
       at_or_off (write len v p k pos buffer size t).number 0
       (λ e. stay (sound_facts (total len) v S) (names_carry (write_done len v p k pos buffer size t octets lent e).done.names))
-      (λ n. rw (write_refused len v p k pos buffer size t n).1 (ways_self v))
+      (λ n. subst (WaysStay v) (sym (write_refused len v p k pos buffer size t n).1) (ways_self v))
 
 -- Set EOF.
 module _ (len : ℕ) (v p : Bytes) (k e : ℕ) (t : Stamp) (octets : Octets v) (S : sound (total len) v ≡ true) where
@@ -101,7 +103,7 @@ module _ (len : ℕ) (v p : Bytes) (k e : ℕ) (t : Stamp) (octets : Octets v) (
   set_eof_ways =
       at_or_off (set_eof len v p k e t).number 0
       (λ z. stay (sound_facts (total len) v S) (names_carry (set_eof_done len v p k e t octets z).done.names))
-      (λ n. rw (set_eof_refused len v p k e t n).1 (ways_self v))
+      (λ n. subst (WaysStay v) (sym (set_eof_refused len v p k e t n).1) (ways_self v))
 
 -- Rename: the place that it names has the new name as capitals, all others the names that they had.
 module _ (len : ℕ) (v p : Bytes) (k : ℕ) (q : Bytes) (j : ℕ) (S : sound (total len) v ≡ true) where
@@ -153,7 +155,7 @@ module _ (len : ℕ) (v p : Bytes) (k : ℕ) (q : Bytes) (j : ℕ) (S : sound (t
   rename_stays xs s c w =
       at_or_off (rename len v p k q j).number 0
       (λ e. let R = rename_ways e xs s w in (R.0, R.1 ∙ replaced_off a new v (volume ∷ xs) c))
-      (λ n. rw (rename_refused len v p k q j n).1 (w, refl))
+      (λ n. subst (λ u. WayStays v u xs s) (sym (rename_refused len v p k q j n).1) (w, refl))
 
   -- the file that is renamed
   pub rename_holds : (h : ℕ) → sort v a ≡ file h → Holds v (rename len v p k q j).image a

@@ -1,6 +1,6 @@
 -- Paths after each call, and after calls one after another: what a path led to it still leads to, but for a new name of what was renamed on its way.
 use Prim.Native.Nat.{ℕ}
-use mathlib.Core.Path.{◌≡◌, refl, sym, ap, ◌∙◌}
+use mathlib.Core.Path.{◌≡◌, refl, sym, ap, subst, ◌∙◌}
 use mathlib.Core.List.{List, [], ◌∷◌}
 use mathlib.Core.Bool.{Bool, true, false}
 use lib.Dec.{eqb}
@@ -125,11 +125,11 @@ call_way len (destroying p k) v l b S xs s n way = destroy_ways len v p k b S xs
 call_way len (renaming p k q j) v l b S xs s n way =
     at_or_off (rename len v p k q j).number 0
     (λ e. rw (eq-eqb _ 0 e, names_after) (rename_ways len v p k q j S e xs s way))
-    (λ z. rw (ne_eqb _ 0 z, (rename_refused len v p k q j z).1, names_after) (way, refl))
+    (λ z. rw (ne_eqb _ 0 z, names_after) (subst (λ u. WayStays v u xs s) (sym (rename_refused len v p k q j z).1) (way, refl)))
 call_way len (informing p k access aux t) v l b S xs s n way = set_info_ways len v p k access aux t S xs s way
-call_way len (asking p k) v l b S xs s n way = rw (get_info_image len v p k) (way, refl)
-call_way len measuring v l b S xs s n way = rw (space_image len v) (way, refl)
-call_way len (reading p k pos o size) v l b S xs s n way = rw (read_image len v p k pos o size) (way, refl)
+call_way len (asking p k) v l b S xs s n way = subst (λ u. WayStays v u xs s) (sym (get_info_image len v p k)) (way, refl)
+call_way len measuring v l b S xs s n way = subst (λ u. WayStays v u xs s) (sym (space_image len v)) (way, refl)
+call_way len (reading p k pos o size) v l b S xs s n way = subst (λ u. WayStays v u xs s) (sym (read_image len v p k pos o size)) (way, refl)
 call_way len (writing p k pos o size t) v l b S xs s n way = write_ways len v p k pos o size t b l.1 S xs s way
 call_way len (ending p k e t) v l b S xs s n way = set_eof_ways len v p k e t b S xs s way
 

@@ -1,6 +1,6 @@
 -- On a sound volume there is exactly one way to each active entry.
 use Prim.Native.Nat.{ℕ, zero, suc, ◌+◌, ◌≤◌}
-use mathlib.Core.Path.{◌≡◌, refl, sym, ap, ◌∙◌}
+use mathlib.Core.Path.{◌≡◌, refl, sym, ap, subst, ◌∙◌}
 use mathlib.Core.List.{List, [], ◌∷◌, ◌++◌, append-nil}
 use mathlib.Core.Bool.{true}
 use native.Mathlib.Omega.{arith}
@@ -76,7 +76,7 @@ module _ {n : ℕ} {v : Bytes} (S : Sound n v) where
   up_one s (x ∷ y ∷ us) (z ∷ t ∷ ws) u w =
       let e = one_parent S y t s (up_seen y (y ∷ us) u.2) (up_seen t (t ∷ ws) w.2) u.1 w.1 in
       let f : x ≡ z = u.0 ∙ sym w.0 in
-      let r = up_one y (y ∷ us) (y ∷ ws) u.2 (rw (← e) at w.2) ∙ ap (λ q. q ∷ ws) e in
+      let r = up_one y (y ∷ us) (y ∷ ws) u.2 (subst (λ q. Up v q (q ∷ ws)) (sym e) w.2) ∙ ap (λ q. q ∷ ws) e in
       λ i. f i ∷ r i
 
   way_up : (xs : List ℕ) (d s : ℕ) (us : List ℕ) → Up v d (d ∷ us) → Way v d xs s → Up v s (turned (d ∷ xs) us)

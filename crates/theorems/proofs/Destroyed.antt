@@ -1,5 +1,5 @@
 -- Destroy: the path leads to nothing, in the directory it led to, and the blocks of the entry are free.
-use Prim.Native.Nat.{ℕ, ◌+◌, ◌-◌}
+use Prim.Native.Nat.{ℕ, ◌+◌}
 use mathlib.Core.Path.{◌≡◌, refl, ap, ◌∙◌}
 use mathlib.Core.List.{List}
 use mathlib.Core.Bool.{true, false≢true}

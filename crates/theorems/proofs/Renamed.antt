@@ -1,7 +1,7 @@
 -- Rename of an entry: the path with the new last name leads to it, and every path through it leads where it led with the new name in its place. The old
 -- path leads to nothing.
 use Prim.Native.Nat.{ℕ, suc, ◌+◌, ◌-◌, ◌≤◌}
-use mathlib.Core.Path.{◌≡◌, refl, sym, ap, ◌∙◌}
+use mathlib.Core.Path.{◌≡◌, refl, sym, ap, subst, ◌∙◌}
 use mathlib.Core.List.{List, [], ◌∷◌}
 use mathlib.Core.Option.{some}
 use mathlib.Core.Bool.{true, false}
@@ -127,20 +127,24 @@ module _ {n : ℕ} {v : Bytes} {a d : ℕ} (q : Bytes) (j : ℕ) (S : Sound n v)
     through_same : {e k : ℕ} {ps os os' : List Part} → At v e k → sort v e ≡ directory → Seen now e → sort now e ≡ directory → At v a (k + length ps)
         → Leads v p e ps d y → Through p o o' q (part 0 j) ps os os' → along now o' e os' ≡ along v o e os
     unfolding along
-    through_same b h s f A (arrived i) (renamed_here E F N) = rw i (entry_same A (rw i at s) (rw i at f) E F N)
-    through_same {k = k} b h s f A (onward {e} {t} {d} {x} {x'} {xs = xs} c g m W) (on_the_way {y = z} {y' = z'} E F T) =
-        let B = under b h c in
-        let off-e : e ≡ a → ⊥ = λ i. let u = at_depth S A (rw i at b) in omega arith in
-        let off-t : t ≡ a → ⊥ = λ i. let u = at_depth S A (rw i at B) in omega arith in
-        let O = one_entry now_step e t (at_seen S b) c off-t in
-        let c' : 1 ≤ count t (kids now e) = rw (now_kids e (at_seen S b)) c in
-        let g' : sort now t ≡ directory = O.0 ∙ g in
-        let old : seek v o z (kids v e) ≡ some t =
-        seek_one S o z e t (at_seen S b) c (rw g refl) (bears_same v (at t) o z (spelled_bears E (same_bears v (at t) p x m))) in
-        let new : seek now o' z' (kids now e) ≡ some t =
-        seek_one now_sound o' z' e t s c' (rw g' refl) (near_same (named_near O.1) (spelled_trans E F) m) in
-        let i : k + length (x ∷ x' ∷ xs) ≡ suc k + length (x' ∷ xs) = omega arith in
-        rw (old, new, along) (rw (g, g', along) (through_same B g (kid_seen now_sound e t s f c') g' (rw i at A) W T))
+    through_same b h s f A W T = from W b h s f A T
+      where
+        from : {e k : ℕ} {ps os os' : List Part} → Leads v p e ps d y → At v e k → sort v e ≡ directory → Seen now e → sort now e ≡ directory
+            → At v a (k + length ps) → Through p o o' q (part 0 j) ps os os' → along now o' e os' ≡ along v o e os
+        from (arrived i) b h s f A (renamed_here E F N) = rw i (entry_same A (rw i at s) (rw i at f) E F N)
+        from {k = k} (onward {e} {t} {d} {x} {x'} {xs = xs} c g m W) b h s f A (on_the_way {y = z} {y' = z'} E F T) =
+            let B = under b h c in
+            let off-e : e ≡ a → ⊥ = λ i. let u = at_depth S A (rw i at b) in omega arith in
+            let off-t : t ≡ a → ⊥ = λ i. let u = at_depth S A (rw i at B) in omega arith in
+            let O = one_entry now_step e t (at_seen S b) c off-t in
+            let c' : 1 ≤ count t (kids now e) = rw (now_kids e (at_seen S b)) c in
+            let g' : sort now t ≡ directory = O.0 ∙ g in
+            let old : seek v o z (kids v e) ≡ some t =
+            seek_one S o z e t (at_seen S b) c (rw g refl) (bears_same v (at t) o z (spelled_bears E (same_bears v (at t) p x m))) in
+            let new : seek now o' z' (kids now e) ≡ some t =
+            seek_one now_sound o' z' e t s c' (rw g' refl) (near_same (named_near O.1) (spelled_trans E F) m) in
+            let i : k + length (x ∷ x' ∷ xs) ≡ suc k + length (x' ∷ xs) = omega arith in
+            rw (old, new, along) (rw (g, g', along) (from W B g (kid_seen now_sound e t s f c') g' (rw i at A) T))
 
     now_through : {ps os os' : List Part} → At v a (suc (length ps - 2)) → Reaches v p ps d y → Through p o o' q (part 0 j) ps os os'
         → lookup now o' os' ≡ lookup v o os
@@ -214,7 +218,7 @@ module _ (len : ℕ) (v p : Bytes) (k : ℕ) (q : Bytes) (j : ℕ) where
       let S = not_false _ (rows_off _ e refl 1) in
       let image = rename_image len v p k q j S e in
       rw image
-      (renamed_is e z (λ xs s c w. rw image at (rename_stays len v p k q j S xs s c w))
+      (renamed_is e z (λ xs s c w. subst (λ u. WayStays v u xs s) image (rename_stays len v p k q j S xs s c w))
       (λ o i d s f n m.
       let W = path_spells (total len) v S o i d s f in
       let off : count a (volume ∷ W.places) ≡ 0 = omega (arith, spells_passed (total len) v S o i d s W a, m, is_no a s (λ x. n (sym x))) in

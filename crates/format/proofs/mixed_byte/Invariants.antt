@@ -1,0 +1,14 @@
+-- `format::mixed_byte` meets its contract. The first i bits are counted after i turns.
+use mathlib.Core.Path.{◌≡◌, ap, ◌∙◌}
+use Prim.Native.Nat.{◌+◌, ◌-◌, ◌*◌, ◌≤◌}
+use native.Mathlib.Omega.{arith}
+use Rattle.model.specs.Map.{fresh_bits}
+use Rattle.format.proofs.Laws.{fresh_none, fresh_next}
+use borrow.Author.Rules.{rules}
+use Rattle.format.proofs.mixed_byte.Given as goal
+
+abbrev pub invariant-loop-i : goal.invariant-loop-i
+invariant-loop-i l = (l.i ≤ 8) × (l.byte ≡ fresh_bits l.free l.n l.block l.i) × (l.byte ≤ 128 * l.i)
+
+abbrev pub decreases-loop-i : goal.decreases-loop-i
+decreases-loop-i l = 8 - l.i

@@ -1,0 +1,34 @@
+-- `listing::emit_first_line` meets its contract. On a sound volume the header and the map lie inside the image.
+use native.Mathlib.Omega.{arith}
+use mathlib.Core.Path.{ap, ◌∙◌}
+use mathlib.Core.List.{◌∷◌}
+use Rattle.model.specs.Bytes.{view}
+use Rattle.model.specs.Map.{room}
+use Rattle.model.specs.Directory.{at}
+use Rattle.model.specs.Catalog.{space', decimal, first_line}
+use Rattle.claims.proofs.SoundFacts.{sound_facts}
+use Rattle.ink.proofs.InkLaws.{prints_as, ◌then◌}
+use Rattle.listing.proofs.WalkLaws.{map_inside}
+use borrow.Author.Rules.{rules}
+use Rattle.listing.proofs.emit_first_line.Goals as goal
+
+pub bounds-img-1028 : goal.bounds-img-1028
+bounds-img-1028 c = omega (arith, (sound_facts _ _ c.requires.1).least)
+
+pub emit_run-name-requires : goal.emit_run-name-requires
+emit_run-name-requires c = omega (arith, (sound_facts _ _ c.requires.1).least)
+
+pub get_word-requires : goal.get_word-requires
+get_word-requires c = omega (arith, (sound_facts _ _ c.requires.1).least)
+
+pub free_blocks-free-requires : goal.free_blocks-free-requires
+free_blocks-free-requires c = omega (arith, map_inside _ _ _ c.requires.1 c.get_word.ensures.value)
+
+pub returns : goal.returns
+unfolding first_line at
+returns c =
+    let a = c.args in
+    c.emit_run-name.ensures
+    then c.emit_decimal-total.ensures
+    then prints_as (ap (λ x. space' ∷ decimal x) (c.free_blocks-free.ensures.0 ∙ ap (λ m. room m (view a.img.now) a.n) c.get_word.ensures.value)) c.emit_decimal-space.ensures
+    then c.emit_byte.ensures

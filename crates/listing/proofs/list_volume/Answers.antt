@@ -1,0 +1,23 @@
+-- `listing::list_volume` meets its contract. The first line, then the slots of the volume directory.
+use native.Mathlib.Omega.{arith}
+use Rattle.claims.proofs.SoundFacts.{sound_facts}
+use Rattle.ink.proofs.InkLaws.{prints_as, ◌then◌}
+use Rattle.listing.proofs.WalkLaws.{whole, volume_chained, volume_text}
+use borrow.Author.Rules.{rules}
+use Rattle.listing.proofs.list_volume.Reads as reads
+use Rattle.listing.proofs.list_volume.Goals as goal
+
+pub extend-len-requires : goal.extend-len-requires
+extend-len-requires c = omega (arith, (sound_facts _ _ c.requires.1).least)
+
+pub list_directory-requires : goal.list_directory-requires
+list_directory-requires c =
+    let a = c.args in
+    let p = c.requires in (
+      whole a.n a.img.now p.0 p.1,
+      omega (arith, c.extend-len.ensures.size),
+      volume_chained a.n a.img.now p.0 p.1,
+    )
+
+pub returns : goal.returns
+returns c = prints_as (volume_text _ _ _ _ c.extend-len.ensures.reads) (c.emit_first_line-first.ensures then c.list_directory.ensures.prints)

@@ -1,0 +1,16 @@
+-- `looks::blocks_read` meets its contract.
+use Prim.Native.Nat.{◌-◌, ◌/◌}
+use mathlib.Core.Path.{◌≡◌, refl, sym, ◌∙◌}
+use lib.ListN.{length}
+use borrow.Author.Rules.{rules}
+use Rattle.model.specs.Bytes.{view}
+use Rattle.looks.specs.Looks.{read_until, blocks_read}
+use Rattle.looks.proofs.UntilLaws.{until_over, until_found, until_past, until_next}
+use Rattle.looks.proofs.blocks_read.Given as goal
+
+abbrev pub invariant-loop-read : goal.invariant-loop-read
+invariant-loop-read l =
+    read_until (view l.img) l.most l.goal (l.most - l.read) l.block l.read ≡ blocks_read (length l.img) (view l.img) l.key l.goal
+
+abbrev pub decreases-loop-read : goal.decreases-loop-read
+decreases-loop-read l = l.most - l.read

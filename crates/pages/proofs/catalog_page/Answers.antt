@@ -1,0 +1,41 @@
+-- `pages::catalog_page` meets its contract.
+use Prim.Native.Nat.{◌≤◌, ◌<◌}
+use mathlib.Core.Path.{◌≡◌, sym, ◌∙◌}
+use lib.ListN.{length}
+use native.Mathlib.Omega.{arith}
+use Rattle.model.specs.Bytes.{view}
+use Rattle.model.specs.Catalog.{catalog_most}
+use Rattle.opening.proofs.VolumeLaws.{volume_sound}
+use Rattle.pages.proofs.CatalogLaws.{too_large, refused_line_law, listed}
+use borrow.Author.Rules.{rules}
+use Rattle.pages.proofs.catalog_page.Reads as reads
+use Rattle.opening.proofs.volume_in.Reads as volume-in-reads
+use Rattle.listing.proofs.page_of_refusal.Reads as page-of-refusal-reads
+use Rattle.listing.proofs.page_of_too_large.Reads as page-of-too-large-reads
+use Rattle.listing.proofs.page_of_volume.Reads as page-of-volume-reads
+use Rattle.model.proofs.refusal_number.Reads as refusal-number-reads
+use Rattle.pages.proofs.catalog_page.Goals as goal
+
+pub returns-then-img-gt-MOST : goal.returns-then-img-gt-MOST
+returns-then-img-gt-MOST c =
+    let l = c.args.img.now in
+    let h : catalog_most < length l = omega arith in
+    rw (too_large (length l) (view l) h) c.page_of_too_large.ensures
+
+pub page_of_volume-requires : goal.page_of_volume-requires
+page_of_volume-requires c =
+    let l = c.args.img.now in
+    let f = volume_sound (length l) (view l) _ (sym c.volume_in.ensures ∙ c.in-Sound.is) in
+    (f.whole, f.sane)
+
+pub returns-in-Refused : goal.returns-in-Refused
+returns-in-Refused c =
+    let l = c.args.img.now in
+    let h : length l ≤ catalog_most = omega arith in
+    rw (refused_line_law (length l) (view l) _ h (sym c.volume_in.ensures ∙ c.in-Refused.is)) (rw (← c.refusal_number-number.ensures) c.page_of_refusal.ensures)
+
+pub returns-in-Sound : goal.returns-in-Sound
+returns-in-Sound c =
+    let l = c.args.img.now in
+    let h : length l ≤ catalog_most = omega arith in
+    rw (listed (length l) (view l) _ h (sym c.volume_in.ensures ∙ c.in-Sound.is)) c.page_of_volume.ensures

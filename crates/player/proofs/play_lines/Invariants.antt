@@ -1,0 +1,25 @@
+-- `player::play_lines` meets its contract. The loop's invariant: the lines that are left, played on the stage of now, are the whole script played.
+--
+use Rattle.player.proofs.PlayedLaws.{rest, rest_none, rest_all, turn_last, turn_again, holds}
+use Rattle.player.specs.Played.{rooms, stage, played_all}
+use Rattle.model.specs.Bytes.{view}
+use lib.ListN.{length}
+use borrow.Author.Rules.{rules}
+use native.Mathlib.Omega.{arith}
+use mathlib.Core.Path.{◌≡◌, refl, sym, ap, ◌∙◌}
+use Prim.Native.Nat.{◌-◌, ◌≤◌}
+use Rattle.player.proofs.play_lines.Given as goal
+
+abbrev pub invariant-loop-at : goal.invariant-loop-at
+invariant-loop-at l =
+    (l.at ≤ length l.text)
+    × (l.number ≤ l.at)
+    × (length l.image ≡ length l.initial.image)
+    × (length l.buffer ≡ length l.initial.buffer)
+    × (length l.page ≡ length l.initial.page)
+    × (l.state.size ≤ length l.image)
+    × (rest (rooms l.initial.image l.initial.buffer l.initial.page) (view l.text) (length l.text) l.at l.number (stage l.state.size l.state.used l.image l.buffer l.page)
+    ≡ played_all (rooms l.initial.image l.initial.buffer l.initial.page) (view l.text) (length l.text) (view l.initial.image) (view l.initial.buffer) (view l.initial.page))
+
+abbrev pub decreases-loop-at : goal.decreases-loop-at
+decreases-loop-at l = length l.text - l.at

@@ -1,0 +1,28 @@
+-- `replies::put_hex` meets its contract. The invariant says what is left to be printed.
+use native.Mathlib.Omega.{arith}
+use Prim.Native.Nat.{◌-◌, ◌≤◌}
+use mathlib.Core.Path.{◌≡◌, refl}
+use native.Mathlib.Nat.{sub-zero}
+use lib.ListN.{length}
+use Rattle.model.specs.Bytes.{view}
+use Rattle.ink.specs.Ink.{sheet, emit}
+use Rattle.ink.proofs.InkLaws.{emit_rest, emit_done}
+use Rattle.replies.specs.Lines.{hex_text}
+use Rattle.replies.proofs.LineLaws.{hex_next, hex_end}
+use borrow.Author.Rules.{rules}
+use Rattle.replies.proofs.put_hex.Goals as goal
+
+pub loop-i-init : goal.loop-i-init
+loop-i-init c = (omega arith, refl, rw sub-zero)
+
+pub loop-i-preserved : goal.loop-i-preserved
+loop-i-preserved c =
+    let a = c.args in
+    let l = c.loop-i in
+    (omega arith, omega arith, emit_rest _ _ _ (hex_next (length a.run.now) l.i (omega arith) (view a.run.now)) c.emit_hex_byte-now.ensures l.invariant.2)
+
+pub returns : goal.returns
+returns c =
+    let a = c.args in
+    let l = c.loop-i in
+    emit_done _ _ _ _ (hex_end _ _ (omega arith) (view a.run.now)) l.invariant.2

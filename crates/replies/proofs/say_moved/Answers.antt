@@ -1,0 +1,15 @@
+-- `replies::say_moved` meets its contract. Its parts, one after the other.
+use Rattle.model.specs.Catalog.{text}
+use Rattle.ink.proofs.InkLaws.{◌then◌}
+use Rattle.replies.specs.Lines.{read_line}
+use borrow.Author.Rules.{rules}
+use Rattle.replies.proofs.say_moved.Goals as goal
+
+pub returns : goal.returns
+unfolding text read_line
+returns c =
+    c.emit_run-word.ensures
+    then c.emit_decimal-counted.ensures
+    then c.emit_byte-spaced.ensures
+    then c.put_buffer-shown.ensures
+    then c.emit_byte.ensures

@@ -1,0 +1,36 @@
+-- `resize::set_eof` meets its contract, by what the path leads to.
+use mathlib.Core.Path.{sym, ◌∙◌}
+use native.Mathlib.Omega.{arith}
+use lib.ListN.{length}
+use Rattle.model.specs.Bytes.{view}
+use Rattle.resize.proofs.EndLaws.{set_eof_refused, set_eof_volume, set_eof_entry}
+use borrow.Author.Rules.{rules}
+use Rattle.resize.proofs.set_eof.Goals as goal
+
+pub set_entry-requires : goal.set_entry-requires
+set_entry-requires c =
+    let a = c.args in
+    let l = a.img.now in
+    let p = a.path.now in
+    let r = set_eof_entry (length l) (view l) (view p) (length p) a.eof a.stamp _ _ _ _ (λ x. omega (arith, c.slice_known-1.given x)) (sym c.opened_by.ensures ∙ c.in-Entry.is) in
+    (r.0.whole, r.2)
+
+pub returns-in-Refused : goal.returns-in-Refused
+returns-in-Refused c =
+    let a = c.args in
+    let p = a.path.now in
+    set_eof_refused (view p) (length p) a.eof a.stamp a.img.now _ (sym c.opened_by.ensures ∙ c.in-Refused.is)
+
+pub returns-in-Volume : goal.returns-in-Volume
+returns-in-Volume c =
+    let a = c.args in
+    let p = a.path.now in
+    set_eof_volume (view p) (length p) a.eof a.stamp a.img.now _ (sym c.opened_by.ensures ∙ c.in-Volume.is)
+
+pub returns-in-Entry : goal.returns-in-Entry
+returns-in-Entry c =
+    let a = c.args in
+    let l = a.img.now in
+    let p = a.path.now in
+    let r = set_eof_entry (length l) (view l) (view p) (length p) a.eof a.stamp _ _ _ _ (λ x. omega (arith, c.slice_known-1.given x)) (sym c.opened_by.ensures ∙ c.in-Entry.is) in
+    rw r.1 c.set_entry.ensures

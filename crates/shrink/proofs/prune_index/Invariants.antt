@@ -1,0 +1,15 @@
+-- `shrink::prune_index` meets its contract. The pointers below i are trimmed, and the tree fits.
+use mathlib.Core.Path.{◌≡◌, refl}
+use native.Mathlib.Omega.{arith}
+use Prim.Native.Nat.{◌-◌, ◌≤◌}
+use lib.ListN.{length}
+use Rattle.model.specs.Bytes.{view}
+use Rattle.shrink.proofs.Laws.{Trimming, trim_start, trim_on, trim_end}
+use borrow.Author.Rules.{rules}
+use Rattle.shrink.proofs.prune_index.Given as goal
+
+abbrev pub invariant-loop-i : goal.invariant-loop-i
+invariant-loop-i l = (l.i ≤ 256) × (length l.img ≡ length l.initial.img) × Trimming l.n l.end 0 l.number l.block (view l.initial.img) l.i (view l.img)
+
+abbrev pub decreases-loop-i : goal.decreases-loop-i
+decreases-loop-i l = 256 - l.i

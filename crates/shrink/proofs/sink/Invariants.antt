@@ -1,0 +1,16 @@
+-- `shrink::sink` meets its contract. The keys left to give way, taken from the present image, give what all of them give.
+use mathlib.Core.Path.{◌≡◌, refl}
+use native.Mathlib.Omega.{arith}
+use Prim.Native.Nat.{◌≤◌}
+use lib.ListN.{length}
+use Rattle.model.specs.Bytes.{view}
+use Rattle.shrink.proofs.Laws.{Sinking, sink_start, sink_fit, sink_on, sink_end}
+use borrow.Author.Rules.{rules}
+use Rattle.shrink.proofs.sink.Given as goal
+
+abbrev pub invariant-loop-left : goal.invariant-loop-left
+invariant-loop-left l =
+    (l.left ≤ l.count) × (length l.img ≡ length l.initial.img) × Sinking l.n (view l.initial.img) l.to l.key l.count (view l.img) l.heir l.left
+
+abbrev pub decreases-loop-left : goal.decreases-loop-left
+decreases-loop-left l = l.left

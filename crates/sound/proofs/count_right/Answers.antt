@@ -1,0 +1,6 @@
+-- `sound::count_right` meets its contract.
+use borrow.Author.Rules.{rules}
+use Rattle.sound.proofs.count_right.Goals as goal
+
+pub returns : goal.returns
+returns c = rw (← c.get_word.ensures.value, ← c.count_active.ensures)

@@ -1,0 +1,19 @@
+-- `sound::entry_right` meets its contract.
+use native.Mathlib.Omega.{arith}
+use borrow.Author.Tests.{not-true, not-false}
+use Rattle.model.specs.Bytes.{◌and◌}
+use Rattle.checks.proofs.Laws.{slot_in}
+use borrow.Author.Rules.{rules}
+use Rattle.sound.proofs.entry_right.Goals as goal
+
+pub name_right-requires : goal.name_right-requires
+name_right-requires c = let s = slot_in c.args.n c.args.place (omega arith) in omega arith
+
+pub returns-then-not-name_right : goal.returns-then-not-name_right
+unfolding ◌and◌
+returns-then-not-name_right c = rw (← c.name_right.ensures, c.if-not-name_right.true)
+
+pub returns : goal.returns
+unfolding ◌and◌
+returns c =
+    rw (← c.name_right.ensures, c.if-not-name_right.false, ← c.home_of.ensures)

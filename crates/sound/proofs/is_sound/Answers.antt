@@ -1,0 +1,35 @@
+-- `sound::is_sound` meets its contract. The walk and the map decide soundness (claims, Agreement).
+use mathlib.Core.Path.{sym, ◌∙◌}
+use borrow.Author.Tests.{not-true, not-false}
+use Rattle.model.specs.Bytes.{view}
+use Rattle.claims.proofs.SoundFacts.{not_prodos_law, not_placed}
+use Rattle.claims.proofs.Agreement.{decided}
+use Rattle.marks.proofs.Laws.{blank}
+use Rattle.sound.proofs.WorkLaws.{size_right, volume_header_law}
+use borrow.Author.Rules.{rules}
+use Rattle.sound.proofs.is_sound.Goals as goal
+
+pub returns-then-not-is_prodos : goal.returns-then-not-is_prodos
+returns-then-not-is_prodos c =
+    let a = c.args in
+    sym (not_prodos_law a.n (view a.img.now) (sym c.is_prodos.ensures ∙ c.if-not-is_prodos.true))
+
+pub returns-then-get_word-ne-MAP_BLOCK : goal.returns-then-get_word-ne-MAP_BLOCK
+returns-then-get_word-ne-MAP_BLOCK c =
+    let a = c.args in
+    sym (not_placed a.n (view a.img.now) (λ e. c.if-get_word-ne-MAP_BLOCK.true (c.get_word.ensures.value ∙ e)))
+
+pub walk-requires : goal.walk-requires
+walk-requires c =
+    let a = c.args in
+    let p = c.requires in
+    let prodos = sym c.is_prodos.ensures ∙ c.if-not-is_prodos.false in
+    (p.0, (p.2, p.1, volume_header_law a.n (view a.img.now) prodos), blank 8192)
+
+pub returns : goal.returns
+returns c =
+    let a = c.args in
+    let p = c.requires in
+    let prodos = sym c.is_prodos.ensures ∙ c.if-not-is_prodos.false in
+    c.walk.ensures
+    ∙ decided a.n (view a.img.now) (size_right a.n p.0 p.1) prodos (sym c.get_word.ensures.value ∙ c.if-get_word-ne-MAP_BLOCK.false)

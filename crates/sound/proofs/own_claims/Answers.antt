@@ -1,0 +1,29 @@
+-- `sound::own_claims` meets its contract.
+use Prim.{tt}
+use mathlib.Core.Path.{sym, ◌∙◌}
+use Rattle.model.specs.Bytes.{view}
+use Rattle.model.specs.Directory.{sort}
+use Rattle.marks.specs.Marks.{marks}
+use Rattle.directory.proofs.SlotLaws.{says_inactive, says_improper}
+use Rattle.sound.specs.Work.{standing}
+use Rattle.sound.proofs.WorkLaws.{idle, no_kind}
+use borrow.Author.Rules.{rules}
+use Rattle.sound.proofs.own_claims.Goals as goal
+
+pub own_active-requires : goal.own_active-requires
+own_active-requires c =
+    let p = c.requires in
+    (p.0, p.1, sym c.stands_at.ensures ∙ c.in-Active.is)
+
+pub returns-in-Inactive : goal.returns-in-Inactive
+returns-in-Inactive c =
+    let a = c.args in
+    let v = view a.img.now in
+    let h = idle a.n v a.levels a.home a.place (marks a.seen.now) (says_inactive (sort v a.place) (standing v a.place) (sym c.stands_at.ensures ∙ c.in-Inactive.is)) in
+    record { seen_after = h.0; leads = h.1 }
+
+pub returns-in-Improper : goal.returns-in-Improper
+returns-in-Improper c =
+    let a = c.args in
+    let v = view a.img.now in record { seen_after = no_kind a.n v a.levels a.home a.place (marks a.seen.now)
+          (says_improper (sort v a.place) (standing v a.place) (sym c.stands_at.ensures ∙ c.in-Improper.is)); leads = tt }

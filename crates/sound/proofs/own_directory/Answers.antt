@@ -1,0 +1,71 @@
+-- `sound::own_directory` meets its contract. The tests come in the order of the claims.
+use Prim.{tt}
+use mathlib.Core.Path.{sym, ap, ◌∙◌}
+use Prim.Native.Nat.{ℕ}
+use native.Mathlib.Omega.{arith}
+use borrow.Author.Tests.{not-true, not-false}
+use Rattle.model.specs.Bytes.{view}
+use Rattle.model.specs.Directory.{used}
+use Rattle.claims.proofs.ClaimLaws.{taken, refused}
+use Rattle.marks.specs.Marks.{marks}
+use Rattle.directory.specs.Search.{listed}
+use Rattle.sound.proofs.WorkLaws.{must_last, no_level, misnamed, misfit, chain_left, fields_some, directory_kids, used_read}
+use borrow.Author.Rules.{rules}
+use Rattle.sound.proofs.own_directory.Goals as goal
+
+pub returns-then-levels-eq0 : goal.returns-then-levels-eq0
+returns-then-levels-eq0 c =
+    let a = c.args in record { seen_after = no_level a.n (view a.img.now) a.levels a.home a.place (marks a.seen.now) c.requires.ready.2 c.if-levels-eq0.true; leads = tt }
+
+pub returns-then-not-entry_right : goal.returns-then-not-entry_right
+returns-then-not-entry_right c =
+    let a = c.args in
+    let e = c.entry_right in record { seen_after = misnamed a.n (view a.img.now) a.levels a.home a.place (marks a.seen.now) c.requires.ready.2 c.if-levels-eq0.false e.result e.ensures c.if-not-entry_right.true; leads = tt }
+
+pub returns-then-not-directory_right : goal.returns-then-not-directory_right
+returns-then-not-directory_right c =
+    let a = c.args in
+    let p = c.requires in
+    let e = c.entry_right in
+    let f = c.directory_right in record { seen_after = misfit a.n (view a.img.now) a.levels a.home a.place (marks a.seen.now) p.ready.2 c.if-levels-eq0.false e.result e.ensures
+          a.entry p.describes.1 c.if-not-entry_right.false f.result f.ensures c.if-not-directory_right.true; leads = tt }
+
+pub open_directory-requires : goal.open_directory-requires
+open_directory-requires c =
+    let a = c.args in
+    let p = c.requires in
+    let f = c.directory_right in
+    let some = fields_some a.entry.ftype a.entry.used _ (sym f.ensures ∙ c.if-not-directory_right.false) in
+    (p.ready.0, p.ready.1, some, omega arith, p.describes.0)
+
+pub returns-then-not-open_directory : goal.returns-then-not-open_directory
+returns-then-not-open_directory c =
+    let a = c.args in
+    let p = c.requires in
+    let e = c.entry_right in
+    let f = c.directory_right in
+    let k = c.open_directory in
+    let left = chain_left a.n (view a.img.now) a.levels a.home a.place (marks a.seen.now) p.ready.2 c.if-levels-eq0.false e.result e.ensures
+    a.entry p.describes.1 c.if-not-entry_right.false f.result f.ensures c.if-not-directory_right.false a.key p.describes.0 in record { seen_after = sym (refused a.n _ _ (marks a.seen.now) (marks k.new.seen) k.result c.if-not-open_directory.true k.ensures.seen_after) ∙ left; leads = tt }
+
+pub returns : goal.returns
+returns c =
+    let a = c.args in
+    let p = c.requires in
+    let v = view a.img.now in
+    let e = c.entry_right in
+    let f = c.directory_right in
+    let k = c.open_directory in
+    let fit = c.if-not-directory_right.false in
+    let done = c.if-not-open_directory.false in
+    let left = chain_left a.n v a.levels a.home a.place (marks a.seen.now) p.ready.2 c.if-levels-eq0.false e.result e.ensures
+    a.entry p.describes.1 c.if-not-entry_right.false f.result f.ensures fit a.key p.describes.0 in record { seen_after = must_last a.n (marks k.new.seen) _ ∙ sym (taken a.n _ _ (marks a.seen.now) (marks k.new.seen) k.result done k.ensures.seen_after) ∙ left; leads = record {
+        below =
+            directory_kids v a.place p.ready.2
+            ∙ ap (λ (b : ℕ). listed v b (used v a.place)) (sym p.describes.0)
+            ∙ ap (λ (u : ℕ). listed v a.key u) (sym (used_read v a.place a.entry p.describes.1));
+        start = p.describes.0;
+        some = fields_some a.entry.ftype a.entry.used _ (sym f.ensures ∙ fit);
+        inside = k.ensures.inside done;
+        level = omega (arith, c.if-levels-eq0.false);
+      } }
