@@ -1,75 +1,100 @@
 // `catalog`: lists the volume whose image comes on standard input, or the image in each file named by an argument, under its name.
 #![tactic(auto)]
 
-use libc::{STDIN_FILENO, STDOUT_FILENO};
+ghost use Rattle.std.specs.Io.{ReadsAtMost};
+
+use std::env::{Env, FillError};
+use std::fs::{File, Files};
+use std::io;
+use std::io::{ErrorKind, Input, Read};
 
 // One byte more than is listed, so that a larger image is seen to be one.
 const ROOM: usize = 65537;
 
+const PAGE: usize = 65536;
+
 // More pages than the listing of any image of 65,536 bytes has.
 const PAGES: usize = 64;
 
+// A longer name is listed as an empty one, which no file has.
+const LONGEST_NAME: usize = 256;
+
 // Prints one page and answers how many bytes it had.
-fn print_page(img: &[u8], offset: usize, page: &mut [u8]) -> usize {
+fn print_page(rt: &impl Print, img: &[u8], offset: usize, page: &mut [u8]) -> io::Result<usize> {
     let shown = pages::catalog_page(img, offset, page);
     if shown <= page.len() {
-        io::write_all(STDOUT_FILENO, &page[0..shown]);
+        rt.write_all(&page[0..shown])?;
     }
-    shown
+    Ok(shown)
 }
 
 // Prints what is to be said of an image, in large pieces.
-fn print_catalog(img: &[u8]) {
-    let mut page = io::large_buffer();
-    let mut offset: usize = 0;
-    for _ in 0..PAGES {
-        let shown = print_page(img, offset, &mut page);
-        if shown < 65536 {
-            return;
+fn print_catalog(rt: &impl Print, img: &[u8]) -> io::Result<()> {
+    let mut page = [0u8; PAGE];
+    for i in 0..PAGES {
+        let shown = print_page(rt, img, i * PAGE, &mut page)?;
+        if shown < PAGE {
+            break;
         }
-        offset += 65536;
+    }
+    Ok(())
+}
+
+// Reads until the room is full or the input ends, and answers how many bytes came.
+fn read_full<F: Read>(file: &mut F, room: &mut [u8]) -> io::Result<usize>
+    ensures { ReadsAtMost result room.new }
+{
+    let mut got = 0;
+    for _ in 0..u64::MAX {
+        if got == room.len() {
+            break;
+        }
+        match file.read(&mut room[got..]) {
+            Ok(0) => break,
+            Ok(n) => got += n,
+            Err(e) if e.kind() == ErrorKind::Interrupted => {}
+            Err(e) => return Err(e),
+        }
+    }
+    Ok(got)
+}
+
+fn list<F: Read>(rt: &impl Print, file: &mut F, room: &mut [u8]) -> io::Result<()> {
+    let got = read_full(file, room)?;
+    print_catalog(rt, &room[0..got])
+}
+
+fn list_file(rt: &(impl Print + Eprint + Files), name: &[u8], room: &mut [u8]) -> io::Result<()> {
+    rt.write_all(name)?;
+    rt.write_all(b"\n")?;
+    let Ok(path) = str::from_utf8(name) else {
+        return eprintln!(rt; "a name that is not UTF-8 cannot be opened");
+    };
+    match File::open(rt, path) {
+        Ok(mut file) => list(rt, &mut file, room),
+        Err(error) => eprintln!(rt; "{path}: {error}"),
     }
 }
 
-fn list(file: i32, room: &mut [u8]) {
-    let got = io::read_full(file, room);
-    if got <= room.len() {
-        print_catalog(&room[0..got]);
+// Lists what each argument names. Argument 0 is the program: alone, it reads standard input.
+fn list_arguments(
+    rt: &(impl Print + Eprint + Input + Files + Env),
+    room: &mut [u8],
+) -> io::Result<()> {
+    let mut name = [0u8; LONGEST_NAME];
+    for i in 0..usize::MAX {
+        match rt.arg(i, &mut name) {
+            Ok(_) | Err(FillError::TooLong) if i == 0 => {}
+            Ok(size) => list_file(rt, &name[0..size], room)?,
+            Err(FillError::TooLong) => list_file(rt, b"", room)?,
+            Err(FillError::NotPresent) if i == 1 => return list(rt, &mut rt.reader(), room),
+            Err(FillError::NotPresent) => break,
+        }
     }
+    Ok(())
 }
 
-fn list_file(name: &[u8], room: &mut [u8]) {
-    io::write_all(STDOUT_FILENO, name);
-    io::write_all(STDOUT_FILENO, b"\n");
-    let file = os::open_read(name);
-    if file < 0 {
-        os::fail(name);
-        return;
-    }
-    list(file, room);
-    libc::close(file);
-}
-
-// The file that argument i names. Argument 0 is the program: alone, it reads standard input.
-fn list_argument(i: usize, count: usize, room: &mut [u8]) {
-    if count == 1 {
-        list(STDIN_FILENO, room);
-        return;
-    }
-    if i == 0 {
-        return;
-    }
-    let mut name = [0u8; 256];
-    let size = os::arg(i, &mut name);
-    if size <= 256 {
-        list_file(&name[0..size], room);
-    }
-}
-
-fn main() {
+fn main(rt: HostRuntime) -> io::Result<()> {
     let mut room = [0u8; ROOM];
-    let count = os::arg_count();
-    for i in 0..count {
-        list_argument(i, count, &mut room);
-    }
+    list_arguments(&rt, &mut room)
 }

@@ -1,8 +1,8 @@
 // The calls in use: a volume in memory is formatted, LOG is made on it, written and read back.
 #![tactic(auto)]
 
-use libc::STDOUT_FILENO;
 use model::Stamp;
+use std::io;
 
 fn keep_a_log(img: &mut [u8], back: &mut [u8]) {
     let today = Stamp { date: 1, time: 2 };
@@ -12,9 +12,9 @@ fn keep_a_log(img: &mut [u8], back: &mut [u8]) {
     read::read(img, b"/SITE7/LOG", 0, back);
 }
 
-fn main() {
+fn main(rt: HostRuntime) -> io::Result<()> {
     let mut img = [0u8; 8192];
     let mut back = [0u8; 15];
     keep_a_log(&mut img, &mut back);
-    io::write_all(STDOUT_FILENO, &back);
+    rt.write_all(&back)
 }

@@ -10,9 +10,10 @@ ghost use Rattle.lines.specs.Commands.{Fitting, held};
 ghost use Rattle.player.specs.Played.{rooms, stage, Renews, obeyed, commanded, is_silent, ready as readyAt, played, played_all, staged, Leaves, Holds};
 
 use ink::Ink;
-use libc::STDOUT_FILENO;
 use lines::{Change, Command, Look};
 use script::{FIELDS, ROOM};
+use std::io;
+use std::io::Write;
 
 // One byte more than the largest script, so that a larger one is seen to be one.
 pub const SCRIPT: usize = 1048577;
@@ -29,6 +30,13 @@ const BLOCK: usize = 512;
 
 // No line is longer, of a script or printed.
 const LONGEST_LINE: usize = 4096;
+
+// Where the lines are printed. After a write that fails the rest is played and written all the same; the outcome keeps the first error.
+#[derive(Drop)]
+pub struct Output<W> {
+    pub to: W,
+    pub outcome: io::Result<()>,
+}
 
 // The image's length, and the bytes of the page in use.
 #[derive(Clone, Copy)]
@@ -186,31 +194,39 @@ fn is_silent(line: &[u8]) -> bool
     line[0] == b'#'
 }
 
+fn print<W: Write>(bytes: &[u8], output: &mut Output<W>) {
+    let written = output.to.write_all(bytes);
+    if output.outcome.is_ok() {
+        output.outcome = written;
+    }
+}
+
 // Writes out what is on the page.
-fn flush(page: &[u8], used: usize) {
+fn flush<W: Write>(page: &[u8], used: usize, output: &mut Output<W>) {
     if used <= page.len() {
-        io::write_all(STDOUT_FILENO, &page[0..used]);
+        print(&page[0..used], output);
     }
 }
 
 // A page with room for a line: the one in use, or the same written out.
-fn ready(page: &[u8], used: usize) -> Ink
+fn ready<W: Write>(page: &[u8], used: usize, output: &mut Output<W>) -> Ink
     ensures { result ≡ record { skip = 0; at = readyAt used } }
 {
     if used <= PAGE - LONGEST_LINE {
         return Ink { skip: 0, at: used };
     }
-    flush(page, used);
+    flush(page, used, output);
     Ink { skip: 0, at: 0 }
 }
 
-fn play_line(
+fn play_line<W: Write>(
     line: &[u8],
     number: usize,
     image: &mut [u8],
     buffer: &mut [u8],
     page: &mut [u8],
     state: State,
+    output: &mut Output<W>,
 ) -> State
     requires { state.size ≤ length image.old }
     ensures page_after { stage result.size result.used image.new buffer.new page.new ≡ played (rooms image.old buffer.old page.old) (view line.now) (length line.now) number (stage state.size state.used image.old buffer.old page.old) }
@@ -219,7 +235,7 @@ fn play_line(
     if is_silent(line) {
         return state;
     }
-    let ink = ready(page, state.used);
+    let ink = ready(page, state.used, output);
     let after = command(line, image, buffer, page, ink, state.size);
     if after.good {
         return State {
@@ -235,7 +251,13 @@ fn play_line(
 }
 
 // Plays each line; the bytes of the page in use at the end.
-fn play_lines(text: &[u8], image: &mut [u8], buffer: &mut [u8], page: &mut [u8]) -> usize
+fn play_lines<W: Write>(
+    text: &[u8],
+    image: &mut [u8],
+    buffer: &mut [u8],
+    page: &mut [u8],
+    output: &mut Output<W>,
+) -> usize
     ensures holds { Holds (played_all (rooms image.old buffer.old page.old) (view text.now) (length text.now) (view image.old) (view buffer.old) (view page.old)) image.new buffer.new page.new }
     ensures value { result ≡ (played_all (rooms image.old buffer.old page.old) (view text.now) (length text.now) (view image.old) (view buffer.old) (view page.old)).used }
 {
@@ -245,7 +267,7 @@ fn play_lines(text: &[u8], image: &mut [u8], buffer: &mut [u8], page: &mut [u8])
     while at < text.len() {
         let end = script::line_end(text, at);
         number += 1;
-        state = play_line(&text[at..end], number, image, buffer, page, state);
+        state = play_line(&text[at..end], number, image, buffer, page, state, output);
         if end == text.len() {
             return state.used;
         }
@@ -254,14 +276,21 @@ fn play_lines(text: &[u8], image: &mut [u8], buffer: &mut [u8], page: &mut [u8])
     state.used
 }
 
-// Plays a script on an image of its own, which is empty at the start; a script that is too large does nothing.
-pub fn play(text: &[u8], image: &mut [u8], buffer: &mut [u8], page: &mut [u8])
+// Plays a script on an image of its own, which is empty at the start; a script that is too large does nothing. The rooms end as is said here whether
+// or not a write failed.
+pub fn play<W: Write>(
+    text: &[u8],
+    image: &mut [u8],
+    buffer: &mut [u8],
+    page: &mut [u8],
+    output: &mut Output<W>,
+)
     ensures { Holds (staged (rooms image.old buffer.old page.old) (view text.now) (length text.now) (view image.old) (view buffer.old) (view page.old)) image.new buffer.new page.new }
 {
     if SCRIPT <= text.len() {
-        io::write_all(STDOUT_FILENO, b"SCRIPT TOO LARGE\n");
+        print(b"SCRIPT TOO LARGE\n", output);
         return;
     }
-    let used = play_lines(text, image, buffer, page);
-    flush(page, used);
+    let used = play_lines(text, image, buffer, page, output);
+    flush(page, used, output);
 }

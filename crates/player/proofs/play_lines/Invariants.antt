@@ -9,7 +9,7 @@ use Prim.Native.Nat.{◌-◌, ◌≤◌}
 use Rattle.player.proofs.play_lines.Given as goal
 
 abbrev pub invariant-loop-at : goal.invariant-loop-at
-invariant-loop-at l =
+invariant-loop-at g l =
     (l.at ≤ length l.text)
     × (l.number ≤ l.at)
     × (length l.image ≡ length l.initial.image)
@@ -20,4 +20,4 @@ invariant-loop-at l =
     ≡ played_all (rooms l.initial.image l.initial.buffer l.initial.page) (view l.text) (length l.text) (view l.initial.image) (view l.initial.buffer) (view l.initial.page))
 
 abbrev pub decreases-loop-at : goal.decreases-loop-at
-decreases-loop-at l = length l.text - l.at
+decreases-loop-at g l = length l.text - l.at

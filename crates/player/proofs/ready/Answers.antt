@@ -10,7 +10,7 @@ abbrev top : ℕ → Ink
 top k = record { skip = 0; at = k }
 
 pub returns-then-used : goal.returns-then-used
-returns-then-used c = ap (λ k. top k) (ready_same _ c.if-used.true)
+returns-then-used g c = ap (λ k. top k) (ready_same _ c.if-used.true)
 
 pub returns : goal.returns
-returns c = ap (λ k. top k) (ready_empty _ c.if-used.false)
+returns g c = ap (λ k. top k) (ready_empty _ c.if-used.false)
