@@ -15,6 +15,9 @@ pub returns : goal.returns
 unfolding obeyed
 returns c = let a = c.args in
     let fits = c.requires.2 in
-    let f = c.run-said in record { leaves = on_image_law a.image.now a.size fits (λ n v. changed a.change n v (length a.buffer.now) (held a.values.now a.room.now a.buffer.now)) a.ink.at a.buffer.now a.page.now _
+    let f = c.run-said in record {
+      leaves = on_image_law a.image.now a.size fits (λ n v. changed a.change n v (length a.buffer.now) (held a.values.now a.room.now a.buffer.now)) a.ink.at a.buffer.now a.page.now _
           (changed_back a.image.now a.size fits f.new.img f.auto.img)
-          f.ensures; size_value = refl }
+          f.ensures;
+      size_value = refl;
+    }

@@ -12,8 +12,11 @@ returns-then-line-gt-LONGEST_LINE c = record { leaves = leaves_as (commanded_lon
 
 pub returns-then-not-read : goal.returns-then-not-read
 returns-then-not-read c = let a = c.args in
-    let f = c.read_line-read in record { leaves = leaves_as (commanded_bad a.line.now a.image.now a.buffer.now a.page.now a.size a.ink.at c.if-line-gt-LONGEST_LINE.false f.result.good _ _ _ f.ensures.takes (not-true _ c.if-not-read.true))
-          (record { size = refl; good = refl; image = refl; buffer = refl; page = prints_none }); size_in_bounds = c.requires }
+    let f = c.read_line-read in record {
+      leaves = leaves_as (commanded_bad a.line.now a.image.now a.buffer.now a.page.now a.size a.ink.at c.if-line-gt-LONGEST_LINE.false f.result.good _ _ _ f.ensures.takes (not-true _ c.if-not-read.true))
+          (record { size = refl; good = refl; image = refl; buffer = refl; page = prints_none });
+      size_in_bounds = c.requires;
+    }
 
 pub obey-requires : goal.obey-requires
 obey-requires c = let f = c.read_line-read in
@@ -22,7 +25,10 @@ obey-requires c = let f = c.read_line-read in
 pub returns : goal.returns
 returns c = let a = c.args in
     let f = c.read_line-read in
-    let o = c.obey in record { leaves = commanded_good a.line.now a.image.now a.buffer.now a.page.now a.size a.ink.at c.if-line-gt-LONGEST_LINE.false f.result.good _ _ _ f.ensures.takes f.result.command o.result _ _ _ _ (not-false _ c.if-not-read.false)
+    let o = c.obey in record {
+      leaves = commanded_good a.line.now a.image.now a.buffer.now a.page.now a.size a.ink.at c.if-line-gt-LONGEST_LINE.false f.result.good _ _ _ f.ensures.takes f.result.command o.result _ _ _ _ (not-false _ c.if-not-read.false)
           f.ensures.command_value
           f.auto.buffer
-          o.ensures.leaves; size_in_bounds = o.ensures.size_in_bounds }
+          o.ensures.leaves;
+      size_in_bounds = o.ensures.size_in_bounds;
+    }

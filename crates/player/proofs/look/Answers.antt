@@ -14,6 +14,9 @@ run-said-requires c = let pre = c.requires in (pre.0, pre.1)
 pub returns : goal.returns
 unfolding obeyed
 returns c = let a = c.args in
-    let fits = c.requires.2 in record { leaves = on_image_law a.image.now a.size fits (λ n v. looked a.look n v (length a.buffer.now) (held a.values.now a.room.now a.buffer.now)) a.ink.at a.buffer.now a.page.now _
+    let fits = c.requires.2 in record {
+      leaves = on_image_law a.image.now a.size fits (λ n v. looked a.look n v (length a.buffer.now) (held a.values.now a.room.now a.buffer.now)) a.ink.at a.buffer.now a.page.now _
           (looked_back a.image.now a.size fits)
-          c.run-said.ensures; size_value = refl }
+          c.run-said.ensures;
+      size_value = refl;
+    }
