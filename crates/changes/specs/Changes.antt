@@ -1,6 +1,6 @@
 -- The commands of a script that change the image, as docs/REPLAY.md has them: each with its fields f, on an image v of n bytes and with a
 -- buffer of m bytes.
-use Rattle.std.specs.Prelude.{ℕ, ◌+◌, List, [], ◌∷◌, true, false, leb}
+use Rattle.std.specs.Prelude.{ℕ, ◌+◌, [], ◌∷◌, true, false, leb}
 use Rattle.model.specs.Bytes.{Bytes, paste, same}
 use Rattle.model.specs.Refusals.{Outcome}
 use Rattle.model.specs.Calls.{Nothing}

@@ -1,17 +1,17 @@
 -- What create answers, by what houses the new entry, and what soundness gives of that directory.
-use Prim.Native.Nat.{ℕ, suc, ◌+◌, ◌-◌, ◌*◌, ◌/◌, ◌≤◌, ◌<◌}
+use Prim.Native.Nat.{ℕ, ◌+◌, ◌-◌, ◌*◌, ◌/◌, ◌≤◌, ◌<◌}
 use mathlib.Core.Path.{◌≡◌, refl, sym, ap, subst, ◌∙◌}
 use mathlib.Core.List.{List, [], ◌∷◌}
 use mathlib.Core.Option.{Option, none, some}
 use mathlib.Core.Bool.{Bool, true, false}
 use lib.Dec.{ltb, eqb}
-use lib.ListN.{length, length-drop}
+use lib.ListN.{length}
 use native.Mathlib.Omega.{arith}
 use borrow.Author.Tests.{eqb-true, eqb-false}
-use Rattle.model.specs.Bytes.{Bytes, Octets, view, paste, put_word, sum, ◌and◌}
-use Rattle.model.specs.Names.{Part, part, parts}
+use Rattle.model.specs.Bytes.{Bytes, Octets, view, paste, put_word, ◌and◌}
+use Rattle.model.specs.Names.{Part, parts}
 use Rattle.model.specs.Map.{room, lowest, taken}
-use Rattle.model.specs.Directory.{at, volume, map_place, map_block, active_count, chain, slots, Sort, inactive, directory, improper, file, sort, is_active, live, field, key, used, kids, active, vacant, missing}
+use Rattle.model.specs.Directory.{at, volume, map_place, map_block, active_count, field, key, used, kids, vacant, missing}
 use Rattle.model.specs.Sound.{sound}
 use Rattle.model.specs.Refusals.{Row, row, first, settle}
 use Rattle.model.specs.Calls.{total, target, home, is_no_volume, is_no_directory, is_there, last_part, nothing}
@@ -21,11 +21,10 @@ use Rattle.model.specs.declared.Refusal.{Refusal}
 use Rattle.model.specs.declared.Answer.TheVariants as answer
 use Rattle.model.proofs.RefusalLaws.{settle_refused, number_refuses}
 use Rattle.model.proofs.BitLaws.{room_one, room_lowest, lowest_free}
-use Rattle.model.proofs.Laws.Frame.{last_in, chain_length, slots_length}
+use Rattle.model.proofs.Laws.Frame.{last_in}
 use Rattle.model.proofs.Laws.Sound.{Sound, sound_facts}
 use Rattle.model.proofs.Laws.Keep.{directory_kids}
-use Rattle.model.proofs.Laws.Facts.{Seen, block_inside, chain_inside, slot_inside, directory_key_law, seen_directory, mine_apart, volume_seen, volume_directory}
-use Rattle.model.proofs.Laws.Most.{directory_most}
+use Rattle.model.proofs.Laws.Facts.{block_inside, chain_inside, slot_inside, directory_key_law, seen_directory, mine_apart, volume_seen, volume_directory}
 use Rattle.model.proofs.Laws.Lookup as look
 use Rattle.model.proofs.Laws.Created.{full_low}
 use Rattle.model.proofs.Laws.Extend.{Extends, grown_key_law, grown_free}

@@ -11,7 +11,7 @@ use borrow.Author.Tests.{eq-eqb, ne_eqb, lt-ltb, le-ltb}
 use Rattle.model.specs.Bytes.{Bytes, view, paste, put_word, put_long, long, count, ◌and◌}
 use Rattle.model.specs.Names.{Part}
 use Rattle.model.specs.Map.{room, lowest, first_free, taken}
-use Rattle.model.specs.Directory.{at, block_of, volume, map_place, active_count, chain, next, slots, directory, key, used, kids, vacant}
+use Rattle.model.specs.Directory.{at, block_of, volume, map_place, active_count, chain, next, key, used, kids, vacant}
 use Rattle.model.specs.Refusals.{refusal_number, row, first, settle}
 use Rattle.model.specs.Calls.{nothing}
 use Rattle.model.specs.Create.{Wanted, directory_kind, last_block, gained, entry_bytes, subdirectory_header, entered, created_at, created, is_full, full, create_need}

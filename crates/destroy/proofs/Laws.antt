@@ -9,7 +9,7 @@ use native.Mathlib.Omega.{arith}
 use borrow.Author.Tests.{eq-eqb, ne_eqb}
 use Rattle.model.specs.Bytes.{Bytes, view, put, put_word, count, ◌and◌}
 use Rattle.model.specs.Kinds.{key_of}
-use Rattle.model.specs.Directory.{at, volume, map_place, map_block, active_count, chain, Sort, inactive, directory, improper, file, sort, is_active, is_directory, live, key, used, eof, kids, active, access, there}
+use Rattle.model.specs.Directory.{at, volume, map_place, map_block, active_count, chain, Sort, inactive, directory, improper, file, sort, is_active, is_directory, live, key, eof, kids, access, there}
 use Rattle.model.specs.File.{blocks_of, blocks}
 use Rattle.model.specs.Sound.{sound}
 use Rattle.model.specs.Refusals.{refusal_number, Row, row, first, settle}

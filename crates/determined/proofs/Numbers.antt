@@ -3,14 +3,12 @@ use Prim.Native.Nat.{ℕ}
 use mathlib.Core.Path.{◌≡◌, refl, sym, ap, ◌∙◌}
 use mathlib.Core.Bool.{Bool, true, false}
 use lib.Dec.{eqb}
-use native.Mathlib.Omega.{arith}
 use Rattle.model.specs.Refusals.{refusal_number}
 use Rattle.model.specs.Info.{Space}
 use Rattle.model.specs.Answers.{answer_number, transfer_number, transferred, info_number, info_told, space_answer_number, space_told}
 use Rattle.model.proofs.RefusalLaws.{number_refuses}
 use Rattle.model.specs.declared.Refusal.{Refusal}
 use Rattle.model.specs.declared.Refusal.TheVariants.{NotProdos, NotSound, BadPath, BadKind, BadType, NoVolume, NoDirectory, NotFound, Duplicate, Locked, BadPosition, EndOfFile, DirectoryFull, NoRoom}
-use Rattle.model.specs.declared.Info.{Info}
 use Rattle.model.specs.declared.Answer.{Answer}
 use Rattle.model.specs.declared.Answer.TheVariants as answer
 use Rattle.model.specs.declared.Transfer.{Transfer}

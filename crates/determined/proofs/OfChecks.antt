@@ -1,5 +1,5 @@
 -- Equal results of the public functions of twins and checks.
-use mathlib.Core.Path.{◌≡◌, refl, sym, ◌∙◌}
+use mathlib.Core.Path.{refl, sym, ◌∙◌}
 use Rattle.determined.proofs.Determined.{Determined, Nothing-seen, none_seen}
 use Rattle.twins.proofs.alike_at.Reads as alike-at-reads
 use Rattle.twins.proofs.alike_at.Kinds as alike-at-kinds

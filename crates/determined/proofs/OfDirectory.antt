@@ -1,5 +1,5 @@
 -- Equal results of the public functions of directory.
-use mathlib.Core.Path.{◌≡◌, refl, sym, ◌∙◌}
+use mathlib.Core.Path.{refl, sym, ◌∙◌}
 use Rattle.determined.proofs.Determined.{Determined, Nothing-seen, none_seen}
 use Rattle.directory.proofs.kind_for.Reads as kind-for-reads
 use Rattle.directory.proofs.kind_for.Kinds as kind-for-kinds

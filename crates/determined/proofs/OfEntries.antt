@@ -1,5 +1,5 @@
 -- Equal results of the public functions of entries.
-use mathlib.Core.Path.{◌≡◌, refl, sym, ◌∙◌}
+use mathlib.Core.Path.{refl, sym, ◌∙◌}
 use Rattle.model.specs.Bytes.{Bytes, view}
 use Rattle.determined.proofs.Determined.{Determined, Nothing-seen, none_seen}
 use Rattle.entries.proofs.backed_up.Reads as backed-up-reads

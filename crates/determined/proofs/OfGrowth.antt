@@ -1,5 +1,5 @@
 -- Equal results of the public functions of growth.
-use mathlib.Core.Path.{◌≡◌, refl, sym, ◌∙◌}
+use mathlib.Core.Path.{refl, sym, ◌∙◌}
 use Rattle.model.specs.Bytes.{Bytes, view}
 use Rattle.determined.proofs.Determined.{Determined}
 use Rattle.growth.proofs.put_pointer.Reads as put-pointer-reads

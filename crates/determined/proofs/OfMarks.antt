@@ -1,5 +1,5 @@
 -- Equal results of the public functions of marks. A claim that is refused leaves marks of which its contract says nothing: no caller goes on with them.
-use mathlib.Core.Path.{◌≡◌, refl, sym, ◌∙◌}
+use mathlib.Core.Path.{refl, sym, ◌∙◌}
 use mathlib.Core.Option.{Option}
 use Rattle.claims.specs.Claims.{Seen, outcome}
 use Rattle.marks.specs.Marks.{marks, took_all}

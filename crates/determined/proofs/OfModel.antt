@@ -1,5 +1,5 @@
 -- Equal results of the public functions of model.
-use mathlib.Core.Path.{◌≡◌, refl, sym, ◌∙◌}
+use mathlib.Core.Path.{refl, sym, ◌∙◌}
 use Rattle.determined.proofs.Determined.{Determined, Nothing-seen, none_seen}
 use Rattle.model.proofs.refusal_number.Reads as refusal-number-reads
 use Rattle.model.proofs.refusal_number.Kinds as refusal-number-kinds

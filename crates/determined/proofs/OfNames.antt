@@ -1,6 +1,6 @@
 -- Equal results of the public functions of names.
 use Prim.Native.Nat.{ℕ}
-use mathlib.Core.Path.{◌≡◌, refl, sym, ◌∙◌}
+use mathlib.Core.Path.{refl, sym, ◌∙◌}
 use mathlib.Core.List.{List}
 use Rattle.determined.proofs.Determined.{Determined, DeterminedAs, Nothing-seen, none_seen}
 use Rattle.names.proofs.capital_of.Reads as capital-of-reads

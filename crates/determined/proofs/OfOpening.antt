@@ -1,5 +1,5 @@
 -- Equal results of the public functions of opening.
-use mathlib.Core.Path.{◌≡◌, refl, sym, ◌∙◌}
+use mathlib.Core.Path.{refl, sym, ◌∙◌}
 use Rattle.determined.proofs.Determined.{Determined, Nothing-seen, none_seen}
 use Rattle.opening.proofs.volume_in.Reads as volume-in-reads
 use Rattle.opening.proofs.volume_in.Kinds as volume-in-kinds

@@ -1,5 +1,5 @@
 -- Equal results of the public functions of release.
-use mathlib.Core.Path.{◌≡◌, refl, sym, ◌∙◌}
+use mathlib.Core.Path.{refl, sym, ◌∙◌}
 use Rattle.model.specs.Bytes.{Bytes, view}
 use Rattle.determined.proofs.Determined.{Determined}
 use Rattle.release.proofs.give_limbs.Reads as give-limbs-reads

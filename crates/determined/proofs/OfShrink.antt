@@ -1,5 +1,5 @@
 -- Equal results of the public functions of shrink.
-use mathlib.Core.Path.{◌≡◌, refl, sym, ◌∙◌}
+use mathlib.Core.Path.{sym, ◌∙◌}
 use Rattle.model.specs.Bytes.{Bytes, view}
 use Rattle.determined.proofs.Determined.{Determined}
 use Rattle.shrink.proofs.shrink.Reads as shrink-reads

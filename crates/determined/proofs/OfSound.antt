@@ -1,5 +1,5 @@
 -- Equal results of the public functions of sound.
-use mathlib.Core.Path.{◌≡◌, refl, sym, ◌∙◌}
+use mathlib.Core.Path.{refl, sym, ◌∙◌}
 use Rattle.determined.proofs.Determined.{Determined, Nothing-seen, none_seen}
 use Rattle.sound.proofs.is_sound.Reads as is-sound-reads
 use Rattle.sound.proofs.is_sound.Kinds as is-sound-kinds

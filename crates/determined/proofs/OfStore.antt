@@ -1,5 +1,5 @@
 -- Equal results of the public functions of store.
-use mathlib.Core.Path.{◌≡◌, refl, sym, ◌∙◌}
+use mathlib.Core.Path.{refl, sym, ◌∙◌}
 use Rattle.model.specs.Bytes.{Bytes, view}
 use Rattle.determined.proofs.Determined.{Determined, Nothing-seen, none_seen}
 use Rattle.store.proofs.least.Reads as least-reads

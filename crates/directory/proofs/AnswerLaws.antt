@@ -11,7 +11,7 @@ use native.Mathlib.Omega.{arith}
 use borrow.Author.Tests.{eqb-true, eqb-false}
 use Rattle.model.specs.Bytes.{Bytes, run}
 use Rattle.model.specs.Names.{Part, same_name}
-use Rattle.model.specs.Directory.{place, at, block_of, volume, sort, is_active, is_directory, key, used, slots, kids, vacant, seek, Target, noVolume, noDirectory, missing, there, last, along, lookup}
+use Rattle.model.specs.Directory.{at, block_of, volume, sort, is_active, is_directory, key, used, slots, kids, vacant, seek, Target, noVolume, noDirectory, missing, there, last, along, lookup}
 use Rattle.model.specs.Calls.{is_there, spot}
 use Rattle.model.specs.declared.Entry.{Entry}
 use Rattle.model.specs.declared.Place.{Place}

@@ -9,7 +9,7 @@ use native.Mathlib.Omega.{arith}
 use borrow.Author.Tests.{ne_eqb}
 use Rattle.model.specs.Bytes.{Bytes, view, ◌and◌}
 use Rattle.model.specs.Names.{Part, part, same_name, proper_parts, parts, proper_path}
-use Rattle.model.specs.Directory.{place, at, volume, Sort, inactive, directory, improper, file, sort, is_active, is_directory, field, key, used, chain, slots_below, kids, seek, Target, noVolume, noDirectory, last, along, lookup}
+use Rattle.model.specs.Directory.{at, volume, Sort, inactive, directory, improper, file, sort, is_active, is_directory, field, key, used, chain, slots_below, kids, seek, Target, noVolume, noDirectory, last, along, lookup}
 use Rattle.model.specs.declared.Place.{Place}
 use Rattle.model.specs.declared.Found.{Found}
 use Rattle.names.specs.declared.Cursor.{Cursor}

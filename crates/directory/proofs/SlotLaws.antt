@@ -9,7 +9,7 @@ use borrow.Author.Tests.{ne_eqb, lt-leb}
 use Rattle.model.specs.Bytes.{Bytes, view, from, word, long}
 use Rattle.model.specs.Names.{Part, same_name}
 use Rattle.model.specs.Kinds.{key_of}
-use Rattle.model.specs.Directory.{place, at, volume, Sort, inactive, directory, improper, file, sort_of, sort, is_active, field, ftype, key, used, eof, access}
+use Rattle.model.specs.Directory.{place, at, volume, Sort, inactive, directory, improper, file, sort_of, sort, is_active, ftype, key, used, eof, access}
 use Rattle.model.specs.Info.{stamp_at}
 use Rattle.model.specs.declared.Kind.{Kind}
 use Rattle.model.specs.declared.Entry.{Entry}

@@ -23,7 +23,6 @@ use Rattle.model.specs.declared.SpaceAnswer.TheVariants as spacing
 use Rattle.model.specs.declared.InfoAnswer.TheVariants as information
 use Rattle.model.proofs.RefusalLaws.{settle_refused, settle_accepted, number_refuses}
 use Rattle.opening.specs.Opened.{volume_in, opened_by}
-use Rattle.opening.specs.declared.Volume.{Volume}
 use Rattle.opening.specs.declared.Volume.TheVariants as volumes
 use Rattle.opening.specs.declared.Opened.{Opened}
 use Rattle.opening.specs.declared.Opened.TheVariants as opened

@@ -8,7 +8,6 @@ use lib.Dec.{ltb}
 use lib.ListN.{length, set, length-set}
 use borrow.Author.Tests.{ltb-true, ltb-false, lt-ltb, le-ltb}
 use Rattle.model.specs.Bytes.{Bytes, view, put, paste, from}
-use Rattle.model.specs.Catalog.{text}
 use Rattle.model.proofs.ByteLaws.{view_set, paste_by, paste_none, paste_cong, paste_at, paste_out, put_at, put_off}
 use Rattle.ink.specs.Ink.{Sheet, sheet, inked, emit, Prints, Shows}
 use Rattle.ink.specs.declared.Ink.{Ink}

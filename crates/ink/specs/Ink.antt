@@ -1,6 +1,6 @@
 -- A page shows the bytes of a text from an offset on. A text is emitted byte by byte: first some are skipped, then the page is filled, and
 -- what is past its end goes nowhere.
-use Rattle.std.specs.Prelude.{ℕ, zero, suc, ◌+◌, ◌-◌, min, ◌≡◌, List, [], ◌∷◌, true, false, ltb, length}
+use Rattle.std.specs.Prelude.{ℕ, ◌+◌, ◌-◌, min, ◌≡◌, List, [], ◌∷◌, true, false, ltb, length}
 use Rattle.model.specs.Bytes.{Bytes, view, put, paste, from}
 use Rattle.ink.specs.declared.Ink.{Ink}
 

@@ -1,6 +1,6 @@
 -- What a command leaves, from what the answer is and what was printed. Assumes nothing.
 use mathlib.Core.Path.{◌≡◌, refl, sym, subst}
-use mathlib.Core.List.{List, []}
+use mathlib.Core.List.{List}
 use mathlib.Core.Bool.{Bool, true, false}
 use Prim.Native.Nat.{ℕ}
 use Rattle.model.specs.Bytes.{Bytes, view}

@@ -1,5 +1,5 @@
 -- What a command of a script leaves.
-use Rattle.std.specs.Prelude.{ℕ, ◌≡◌, List, [], Bool, true, false}
+use Rattle.std.specs.Prelude.{ℕ, ◌≡◌, List, [], Bool, false}
 use Rattle.model.specs.Bytes.{Bytes, view}
 use Rattle.ink.specs.Ink.{Sheet, sheet, Prints}
 use Rattle.lines.specs.declared.Said.{Said}

@@ -10,8 +10,8 @@ use lib.ListN.{length, take, drop}
 use borrow.Author.Tests.{ne_eqb, leb-false}
 use Rattle.model.specs.Bytes.{Bytes, view, word, long, gather}
 use Rattle.model.specs.Map.{map_blocks}
-use Rattle.model.specs.Directory.{place, at, volume, map_block, inactive, directory, improper, file, sort_of, sort, is_active, field, ftype, key, used, eof, chain, next, slots_below, kids}
-use Rattle.model.specs.Walk.{level_most, Visit, visit, walk}
+use Rattle.model.specs.Directory.{place, at, volume, map_block, inactive, directory, file, sort_of, sort, is_active, field, ftype, key, used, eof, chain, next, slots_below, kids}
+use Rattle.model.specs.Walk.{level_most, visit, walk}
 use Rattle.model.specs.Sound.{sound}
 use Rattle.model.specs.Names.{slash, name_size}
 use Rattle.model.specs.Catalog.{space', newline, decimal, hex_digit, hex_byte, text, below, line, first_line, listing}

@@ -1,14 +1,14 @@
 -- The entry that a path leads to on a sound volume: it is active and of one of the four kinds, and what its slot says is what the walk reads.
-use Prim.Native.Nat.{ℕ, zero, suc, ◌+◌, ◌-◌, ◌/◌, ◌≤◌, ◌<◌}
+use Prim.Native.Nat.{ℕ, zero, suc, ◌-◌, ◌≤◌, ◌<◌}
 use mathlib.Core.Path.{◌≡◌, refl, sym, ap, ◌∙◌}
 use mathlib.Core.Bool.{Bool, true, false}
 use lib.Dec.{leb, eqb}
 use native.Mathlib.Omega.{arith}
 use borrow.Author.Tests.{eqb-true, ne_eqb, lt-leb}
-use Rattle.model.specs.Bytes.{Bytes, word, long}
+use Rattle.model.specs.Bytes.{Bytes}
 use Rattle.model.specs.Names.{parts}
 use Rattle.model.specs.Kinds.{kind_number, key_of, kind_for}
-use Rattle.model.specs.Directory.{at, volume, volume_block, Sort, inactive, directory, improper, file, sort, sort_of, is_active, is_directory, field, ftype, key, eof, access, there}
+use Rattle.model.specs.Directory.{at, volume, volume_block, Sort, inactive, directory, improper, file, sort, sort_of, is_active, is_directory, key, eof, access, there}
 use Rattle.model.specs.File.{height_for}
 use Rattle.model.specs.Sound.{sound}
 use Rattle.model.specs.Calls.{target}

@@ -2,7 +2,7 @@
 use Prim.Native.Nat.{ℕ}
 use mathlib.Core.Path.{◌≡◌, refl, sym, ap, ◌∙◌}
 use mathlib.Core.Bool.{Bool, true, false, not}
-use mathlib.Core.List.{List, [], ◌∷◌}
+use mathlib.Core.List.{List, ◌∷◌}
 use Rattle.model.specs.Bytes.{Bytes, ◌and◌}
 use Rattle.model.specs.Names.{proper_path}
 use Rattle.model.specs.Refusals.{refusal_number, Row, row, first}

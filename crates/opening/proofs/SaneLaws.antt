@@ -4,7 +4,7 @@ use mathlib.Core.Path.{◌≡◌}
 use mathlib.Core.List.{List, [], ◌∷◌, Memᴰ}
 use mathlib.Core.Bool.{true}
 use Rattle.model.specs.Bytes.{Bytes}
-use Rattle.model.specs.Directory.{volume, directory, sort, key, used, chain, slots, slots_below, kids}
+use Rattle.model.specs.Directory.{directory, sort, key, used, chain, slots_below, kids}
 use Rattle.model.specs.Sound.{sound}
 use Rattle.facts.specs.Reached as met
 use Rattle.facts.proofs.BlockLaws.{met_directory}

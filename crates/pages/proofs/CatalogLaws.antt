@@ -1,13 +1,10 @@
 -- What `catalog` prints, by the size of the image and by what it is.
 use Prim.Native.Nat.{ℕ, ◌≤◌, ◌<◌}
 use mathlib.Core.Path.{◌≡◌, refl, sym, ap, ◌∙◌}
-use mathlib.Core.List.{List, []}
-use mathlib.Core.Bool.{true, false}
-use lib.Dec.{ltb, eqb}
+use mathlib.Core.List.{[]}
 use borrow.Author.Tests.{lt-ltb, le-ltb, eq-eqb, ne_eqb}
 use Rattle.model.specs.Bytes.{Bytes}
 use Rattle.model.specs.Refusals.{refusal_number, first}
-use Rattle.model.specs.Calls.{total}
 use Rattle.model.specs.Info.{space_number}
 use Rattle.model.specs.Catalog.{catalog, catalog_most, listing, refused_line, too_large_line}
 use Rattle.model.specs.declared.Refusal.{Refusal}

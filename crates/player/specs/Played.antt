@@ -1,6 +1,6 @@
 -- A script played line by line, as docs/REPLAY.md has it. What is printed goes on a page, which is written out and used again from its start when
 -- it has no room for a line.
-use Rattle.std.specs.Prelude.{ℕ, zero, suc, ◌+◌, ◌-◌, ◌*◌, ◌≡◌, List, [], ◌∷◌, ◌++◌, Bool, true, false, leb, ltb, eqb, length}
+use Rattle.std.specs.Prelude.{ℕ, zero, suc, ◌+◌, ◌-◌, ◌*◌, ◌≡◌, List, [], ◌++◌, Bool, true, false, leb, ltb, eqb, length}
 use Rattle.model.specs.Bytes.{Bytes, view, paste, zeros, clear, ◌and◌, ◌or◌}
 use Rattle.model.specs.Catalog.{newline}
 use Rattle.ink.specs.Ink.{Sheet, sheet, emit, Prints}

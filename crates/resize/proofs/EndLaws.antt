@@ -9,7 +9,7 @@ use native.Mathlib.Omega.{arith}
 use borrow.Author.Tests.{eq-eqb, ne_eqb, lt-ltb, le-ltb}
 use Rattle.model.specs.Bytes.{Bytes, Octets, view}
 use Rattle.model.specs.Map.{room}
-use Rattle.model.specs.Directory.{at, volume, sort, access, map_block, map_place}
+use Rattle.model.specs.Directory.{volume, sort, access, map_block, map_place}
 use Rattle.model.specs.File.{eof_most, height_for, height}
 use Rattle.model.specs.Refusals.{refusal_number, Row, row, first, settle}
 use Rattle.model.specs.Calls.{total, target, spot, not_data, allows, write_bit, nothing}

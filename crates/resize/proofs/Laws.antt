@@ -8,7 +8,7 @@ use borrow.Author.Tests.{lt-ltb, le-ltb, ltb-true, ltb-false}
 use Rattle.model.specs.Bytes.{Bytes}
 use Rattle.model.specs.Map.{room}
 use Rattle.model.specs.Kinds.{key_of}
-use Rattle.model.specs.Directory.{at, map_place, sort, key, used, eof}
+use Rattle.model.specs.Directory.{at, map_place, sort, key, eof}
 use Rattle.model.specs.File.{height_for, height, span}
 use Rattle.model.specs.Write.{noted, grown, grown_key}
 use Rattle.model.specs.SetEof.{sunk, sunk_key, pruned, shrunk, shrunk_key, eof_set}

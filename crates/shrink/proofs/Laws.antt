@@ -6,16 +6,13 @@ use mathlib.Core.Bool.{Bool, true, false}
 use lib.Dec.{eqb, leb}
 use native.Mathlib.Omega.{arith}
 use borrow.Author.Tests.{eqb-true, eqb-false, eq-eqb, ne_eqb, leb-true, leb-false, le-leb, lt-leb}
-use Rattle.model.specs.Bytes.{Bytes, count, is}
+use Rattle.model.specs.Bytes.{Bytes}
 use Rattle.model.specs.Directory.{map_place}
 use Rattle.model.specs.File.{pointer, put_pointer, first_below, nodes, blocks_in}
 use Rattle.model.specs.Calls.{given_all}
 use Rattle.model.specs.SetEof.{lowered, heir, sunk, sunk_key, each_pointer, trimmed, pruned}
-use Rattle.model.proofs.BitLaws.{is_yes, same_free, same_rest}
-use Rattle.model.proofs.Laws.Frame.{Alike, pointer_in}
-use Rattle.model.proofs.Laws.Weigh.{Gauge, each, has, part, arm_hole, arm_full, nodes_count, has_key, part_has, weigh_one, part_same, weigh_same}
-use Rattle.model.proofs.Laws.Move.{Off, map_alike, pointer_off, pointer_at, pointer_other, octets_pointer, Fit, Move, move_fit, fit_off, fit_below, lift}
-use Rattle.model.proofs.Laws.Give.{Freed, freed_all, lowered_move, sunk_move}
+use Rattle.model.proofs.Laws.Move.{Fit, move_fit, fit_below, lift}
+use Rattle.model.proofs.Laws.Give.{lowered_move, sunk_move}
 use Rattle.model.proofs.Laws.Prune.{prune, prune_move, cut_move}
 use Rattle.release.specs.Loose.{Loose, tree, limb_at, below}
 use Rattle.release.proofs.Laws.{loose_right, loose_tail, loose_cons, fit_loose, number_free, tree_more, below_step}

@@ -14,12 +14,12 @@ use lib.ListN.{length}
 use Rattle.model.specs.Bytes.{Bytes, gather, sum, within, ◌and◌}
 use Rattle.model.specs.Names.{capital_name}
 use Rattle.model.specs.Directory.{Sort, inactive, directory, improper, file, sort_of, sort, is_active, at, directory_type, volume, volume_block, previous, next, header_kind, active_count, field, ftype, key, used, eof, directory_key, chain, slots, slots_below, kids, active}
-use Rattle.model.specs.File.{Node, height_for, span, nodes, blocks, blocks_of}
+use Rattle.model.specs.File.{Node, height_for, span, nodes, blocks_of}
 use Rattle.model.specs.Walk.{visit}
 use Rattle.model.specs.Sound.{proper_size, prodos, twins, top_faults, volume_faults, header_faults, outside}
 use Rattle.model.specs.declared.Kind.{Kind}
 use Rattle.model.specs.declared.Kind.TheVariants.{Seedling, Sapling, Tree, Directory}
-use Rattle.claims.specs.Claims.{Claim, block, must, Seen, claim, outcome, chain_claims, tree_claims, file_claims, directory_claims, claims_of, claims_at, claims, volume_claims, reserved, map_right, fits}
+use Rattle.claims.specs.Claims.{Claim, must, Seen, claim, outcome, chain_claims, tree_claims, file_claims, directory_claims, claims_of, claims_at, claims, volume_claims, reserved, map_right, fits}
 use Rattle.claims.proofs.TestLaws.{decide, none_off, and_true}
 use Rattle.claims.proofs.ClaimLaws.{then, claim_append, taken, refused, must_on, must_off, claims_deep, claims_flat, claims_none}
 use Rattle.claims.proofs.Agreement.{chain_inside}

@@ -5,7 +5,6 @@ use Rattle.lines.specs.declared.Change.TheVariants as change
 use Rattle.lines.specs.declared.Command.TheVariants as command
 use Rattle.changes.specs.Changes.{called}
 use Rattle.lines.proofs.ReadLaws.{fits_by}
-use borrow.Author.Rules.{rules}
 use Rattle.changes.proofs.call.Goals as goal
 
 pub format-requires : goal.format-requires

@@ -5,7 +5,6 @@ use Rattle.model.specs.Bytes.{view}
 use Rattle.model.specs.Answers.{Does}
 use Rattle.model.specs.Destroy.{destroy}
 use Rattle.lines.proofs.PartLaws.{part_as}
-use borrow.Author.Rules.{rules}
 use Rattle.changes.proofs.destroy.Goals as goal
 
 pub returns : goal.returns

@@ -8,7 +8,6 @@ use Rattle.lines.specs.Commands.{held}
 use Rattle.lines.proofs.LeftLaws.{none_leaves, if_so, if_not}
 use Rattle.changes.specs.Changes.{written, filled}
 use Rattle.changes.proofs.ChangeLaws.{writes_leaves}
-use borrow.Author.Rules.{rules}
 use Rattle.changes.proofs.fill.Goals as goal
 
 pub returns-then-buffer-count : goal.returns-then-buffer-count

@@ -8,7 +8,6 @@ use Rattle.model.specs.Answers.{Does}
 use Rattle.model.specs.Rename.{rename}
 use Rattle.lines.specs.Commands.{cut}
 use Rattle.lines.proofs.PartLaws.{part_as}
-use borrow.Author.Rules.{rules}
 use Rattle.changes.proofs.rename.Goals as goal
 
 pub returns : goal.returns

@@ -8,7 +8,6 @@ use Rattle.changes.specs.Changes.{called, written, laid_in, changed}
 use Rattle.changes.proofs.ChangeLaws.{does_leaves, writes_leaves}
 use Rattle.lines.proofs.ReadLaws.{fits_by}
 use Rattle.lines.specs.declared.Command.TheVariants as command
-use borrow.Author.Rules.{rules}
 use Rattle.changes.proofs.run.Goals as goal
 
 pub call-requires : goal.call-requires

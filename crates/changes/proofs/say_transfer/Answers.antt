@@ -1,6 +1,5 @@
 -- `changes::say_transfer` meets its contract.
 use mathlib.Core.Path.{refl}
-use borrow.Author.Rules.{rules}
 use Rattle.changes.proofs.say_transfer.Goals as goal
 
 pub returns : goal.returns

@@ -5,7 +5,6 @@ use lib.ListN.{length}
 use Rattle.model.specs.Bytes.{view}
 use Rattle.lines.proofs.PartLaws.{from_start}
 use Rattle.changes.proofs.ChangeLaws.{laid_bad, laid_done}
-use borrow.Author.Rules.{rules}
 use Rattle.changes.proofs.set.Goals as goal
 
 pub returns-then-img-address : goal.returns-then-img-address

@@ -5,7 +5,6 @@ use Rattle.model.specs.Bytes.{view}
 use Rattle.model.specs.Answers.{Does}
 use Rattle.model.specs.Info.{set_info}
 use Rattle.changes.proofs.ChangeLaws.{stamped_as}
-use borrow.Author.Rules.{rules}
 use Rattle.changes.proofs.set_info.Goals as goal
 
 pub returns : goal.returns

@@ -4,7 +4,6 @@ use native.Mathlib.Omega.{arith}
 use lib.ListN.{length}
 use Rattle.model.specs.Bytes.{view, same}
 use Rattle.changes.proofs.ChangeLaws.{laid_bad, laid_done}
-use borrow.Author.Rules.{rules}
 use Rattle.changes.proofs.set_run.Goals as goal
 
 pub returns-then-img-address : goal.returns-then-img-address

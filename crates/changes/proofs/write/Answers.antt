@@ -9,7 +9,6 @@ use Rattle.lines.specs.Commands.{cut, held}
 use Rattle.changes.specs.Changes.{stamp_of}
 use Rattle.lines.proofs.PartLaws.{part_as}
 use Rattle.changes.proofs.ChangeLaws.{stamped_as}
-use borrow.Author.Rules.{rules}
 use Rattle.changes.proofs.write.Goals as goal
 
 pub returns : goal.returns

@@ -1,11 +1,8 @@
 -- `checks::active_between` meets its contract. The count and what is still to be counted are the whole. The measure is the places left.
 use Rattle.checks.proofs.Laws.{active_more, active_same, active_end}
-use mathlib.Core.Path.{◌≡◌, sym, ◌∙◌}
-use Prim.Native.Nat.{◌+◌, ◌-◌, ◌≤◌}
+use mathlib.Core.Path.{sym, ◌∙◌}
 use native.Mathlib.Omega.{arith}
-use Rattle.model.specs.Bytes.{view, run}
-use Rattle.model.specs.Directory.{active}
-use borrow.Author.Rules.{rules}
+use Rattle.model.specs.Bytes.{view}
 use Rattle.checks.proofs.active_between.Goals as goal
 use Rattle.checks.proofs.active_between.Goals.{then-is_active, else-is_active}
 

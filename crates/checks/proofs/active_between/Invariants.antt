@@ -1,12 +1,8 @@
 -- `checks::active_between` meets its contract. The count and what is still to be counted are the whole. The measure is the places left.
-use mathlib.Core.Logic.{⊎_elim}
-use Rattle.checks.proofs.Laws.{active_more, active_same, active_end}
-use mathlib.Core.Path.{◌≡◌, sym, ◌∙◌}
+use mathlib.Core.Path.{◌≡◌}
 use Prim.Native.Nat.{◌+◌, ◌-◌, ◌≤◌}
-use native.Mathlib.Omega.{arith}
 use Rattle.model.specs.Bytes.{view, run}
 use Rattle.model.specs.Directory.{active}
-use borrow.Author.Rules.{rules}
 use Rattle.checks.proofs.active_between.Given as goal
 
 abbrev pub invariant-loop-place : goal.invariant-loop-place

@@ -1,12 +1,10 @@
 -- `checks::active_in_blocks` meets its contract. The count and what is still to be counted are the whole. The measure is the blocks left.
-use mathlib.Core.Path.{◌≡◌, ap, ◌∙◌}
-use Prim.Native.Nat.{◌+◌, ◌-◌, ◌*◌, ◌≤◌}
+use mathlib.Core.Path.{ap, ◌∙◌}
+use Prim.Native.Nat.{◌-◌, ◌*◌}
 use native.Mathlib.Omega.{arith}
 use Rattle.model.specs.Bytes.{view}
-use Rattle.model.specs.Directory.{active, chain, slots}
-use Rattle.checks.specs.Inside.{Inside}
+use Rattle.model.specs.Directory.{active}
 use Rattle.checks.proofs.Laws.{inside_chain, slots_chain, active_ahead, active_none}
-use borrow.Author.Rules.{rules}
 use Rattle.checks.proofs.active_in_blocks.Goals as goal
 
 pub loop-left-init : goal.loop-left-init

@@ -1,7 +1,6 @@
 -- `checks::address` meets its contract. The sum is the definition's.
 use mathlib.Core.Path.{refl}
 use Rattle.model.specs.Directory.{at}
-use borrow.Author.Rules.{rules}
 use Rattle.checks.proofs.address.Goals as goal
 
 pub returns : goal.returns

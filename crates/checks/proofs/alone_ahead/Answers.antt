@@ -6,7 +6,6 @@ use Rattle.model.specs.Directory.{chain, slots}
 use lib.Dec.{eqb}
 use Rattle.model.specs.Sound.{twins_of}
 use Rattle.checks.proofs.Laws.{alone_append}
-use borrow.Author.Rules.{rules}
 use Rattle.checks.proofs.alone_ahead.Goals as goal
 
 pub alone_in_blocks-requires : goal.alone_in_blocks-requires

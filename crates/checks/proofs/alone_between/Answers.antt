@@ -3,13 +3,9 @@ use Rattle.checks.proofs.Laws.{slot_in, alone_off, alone_next, alone_not, alone_
 use mathlib.Core.Bool.{Bool, true, false}
 use Rattle.model.specs.Names.{alike}
 use mathlib.Core.Path.{◌≡◌, sym, ap, ◌∙◌}
-use Prim.Native.Nat.{◌-◌, ◌≤◌}
 use native.Mathlib.Omega.{arith}
-use lib.Dec.{eqb}
-use Rattle.model.specs.Bytes.{view, run}
+use Rattle.model.specs.Bytes.{view}
 use Rattle.model.specs.Directory.{at}
-use Rattle.model.specs.Sound.{twins_of}
-use borrow.Author.Rules.{rules}
 use Rattle.checks.proofs.alone_between.Goals as goal
 use Rattle.checks.proofs.alone_between.Goals.{then-is_active+else-alike_at, else-is_active}
 

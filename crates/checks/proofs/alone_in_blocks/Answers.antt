@@ -4,12 +4,9 @@ use Prim.Native.Nat.{◌-◌}
 use native.Mathlib.Omega.{arith}
 use Rattle.model.specs.Bytes.{◌and◌, view}
 use Rattle.model.specs.Directory.{next, chain, slots}
-use Rattle.checks.specs.Inside.{Inside}
 use lib.Dec.{eqb}
-use borrow.Author.Tests.{not-true, not-false}
 use Rattle.model.specs.Sound.{twins_of}
 use Rattle.checks.proofs.Laws.{inside_chain, slots_chain, alone_append, alone_none}
-use borrow.Author.Rules.{rules}
 use Rattle.checks.proofs.alone_in_blocks.Goals as goal
 
 pub loop-left-init : goal.loop-left-init

@@ -1,15 +1,10 @@
 -- `checks::alone_in_blocks` meets its contract. What is still to be compared decides. The measure is the blocks left.
-use mathlib.Core.Path.{◌≡◌, refl, sym, ◌∙◌}
-use Prim.Native.Nat.{◌-◌}
-use native.Mathlib.Omega.{arith}
-use Rattle.model.specs.Bytes.{◌and◌, view}
-use Rattle.model.specs.Directory.{next, chain, slots}
+use mathlib.Core.Path.{◌≡◌}
+use Rattle.model.specs.Bytes.{view}
+use Rattle.model.specs.Directory.{chain, slots}
 use Rattle.checks.specs.Inside.{Inside}
 use lib.Dec.{eqb}
-use borrow.Author.Tests.{not-true, not-false}
 use Rattle.model.specs.Sound.{twins_of}
-use Rattle.checks.proofs.Laws.{inside_chain, slots_chain, alone_append, alone_none}
-use borrow.Author.Rules.{rules}
 use Rattle.checks.proofs.alone_in_blocks.Given as goal
 
 abbrev pub invariant-loop-left : goal.invariant-loop-left

@@ -6,7 +6,6 @@ use Rattle.model.specs.Bytes.{view, sum}
 use Rattle.model.specs.Directory.{active, chain, slots}
 use lib.ListN.{drop}
 use Rattle.checks.proofs.Laws.{inside_chain, entries_chain, no_slots, active_ahead}
-use borrow.Author.Rules.{rules}
 use Rattle.checks.proofs.count_active.Goals as goal
 
 pub returns-then-used-eq0 : goal.returns-then-used-eq0

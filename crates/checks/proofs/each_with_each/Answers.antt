@@ -8,7 +8,6 @@ use lib.Dec.{eqb}
 use lib.ListN.{drop}
 use Rattle.model.specs.Sound.{twins}
 use Rattle.checks.proofs.Laws.{inside_chain, entries_chain, no_slots}
-use borrow.Author.Rules.{rules}
 use Rattle.checks.proofs.each_with_each.Goals as goal
 
 pub returns-then-used-eq0 : goal.returns-then-used-eq0

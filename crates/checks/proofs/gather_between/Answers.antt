@@ -1,15 +1,10 @@
 -- `checks::gather_between` meets its contract. What was gathered and what is still to be gathered are the whole. The measure is the places left.
-use mathlib.Core.Path.{◌≡◌, refl, sym, ◌∙◌}
-use mathlib.Core.List.{◌++◌}
-use Prim.Native.Nat.{◌+◌, ◌-◌, ◌≤◌}
+use mathlib.Core.Path.{refl, sym, ◌∙◌}
 use native.Mathlib.Omega.{arith}
-use lib.ListN.{length, take, length-set}
-use Rattle.model.specs.Bytes.{view, run}
-use Rattle.model.specs.Directory.{at, active}
-use Rattle.checks.specs.Inside.{actives}
+use lib.ListN.{take, length-set}
+use Rattle.model.specs.Bytes.{view}
 use Rattle.checks.proofs.Laws.{slot_in, active_more, active_same, active_end}
 use Rattle.checks.proofs.Gathered.{stored_on, stored_off, stored_end}
-use borrow.Author.Rules.{rules}
 use Rattle.checks.proofs.gather_between.Goals as goal
 use Rattle.checks.proofs.gather_between.Goals.{then-is_active, else-is_active}
 

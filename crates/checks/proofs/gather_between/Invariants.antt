@@ -1,16 +1,11 @@
 -- `checks::gather_between` meets its contract. What was gathered and what is still to be gathered are the whole. The measure is the places left.
-use mathlib.Core.Path.{◌≡◌, refl, sym, ◌∙◌}
+use mathlib.Core.Path.{◌≡◌}
 use mathlib.Core.List.{◌++◌}
-use mathlib.Core.Logic.{⊎_elim}
 use Prim.Native.Nat.{◌+◌, ◌-◌, ◌≤◌}
-use native.Mathlib.Omega.{arith}
-use lib.ListN.{length, take, length-set}
+use lib.ListN.{length, take}
 use Rattle.model.specs.Bytes.{view, run}
-use Rattle.model.specs.Directory.{at, active}
+use Rattle.model.specs.Directory.{active}
 use Rattle.checks.specs.Inside.{actives}
-use Rattle.checks.proofs.Laws.{slot_in, active_more, active_same, active_end}
-use Rattle.checks.proofs.Gathered.{stored_on, stored_off, stored_end}
-use borrow.Author.Rules.{rules}
 use Rattle.checks.proofs.gather_between.Given as goal
 
 abbrev pub invariant-loop-place : goal.invariant-loop-place

@@ -8,7 +8,6 @@ use Rattle.model.specs.Directory.{active, next, chain, slots}
 use Rattle.checks.specs.Inside.{actives}
 use Rattle.checks.proofs.Laws.{inside_chain, entries_chain, active_ahead}
 use Rattle.checks.proofs.Gathered.{actives_ahead}
-use borrow.Author.Rules.{rules}
 use Rattle.checks.proofs.gather_entries.Goals as goal
 
 pub overflow_mul-start : goal.overflow_mul-start

@@ -2,13 +2,13 @@
 use mathlib.Core.List.{append_assoc, ◌++◌}
 use Rattle.checks.proofs.Laws.{inside_chain, slots_chain, active_ahead, active_none}
 use Rattle.checks.proofs.Gathered.{actives_ahead, gathered_none}
-use mathlib.Core.Path.{◌≡◌, refl, sym, ap, ◌∙◌}
-use Prim.Native.Nat.{◌+◌, ◌-◌, ◌*◌}
+use mathlib.Core.Path.{refl, sym, ap, ◌∙◌}
+use Prim.Native.Nat.{◌-◌, ◌*◌}
 use native.Mathlib.Omega.{arith}
-use lib.ListN.{length, take}
+use lib.ListN.{take}
 use Rattle.model.specs.Bytes.{view}
-use Rattle.model.specs.Directory.{at, active, next, chain, slots}
-use Rattle.checks.specs.Inside.{Inside, actives}
+use Rattle.model.specs.Directory.{active, next, chain, slots}
+use Rattle.checks.specs.Inside.{actives}
 use borrow.Author.Rules.{rules}
 use Rattle.checks.proofs.gather_in_blocks.Goals as goal
 

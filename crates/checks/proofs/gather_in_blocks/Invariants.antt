@@ -1,15 +1,11 @@
 -- `checks::gather_in_blocks` meets its contract. What was gathered and what is still to be gathered are the whole. The measure is the blocks left.
-use mathlib.Core.List.{append_assoc, ◌++◌}
-use Rattle.checks.proofs.Laws.{inside_chain, slots_chain, active_ahead, active_none}
-use Rattle.checks.proofs.Gathered.{actives_ahead, gathered_none}
-use mathlib.Core.Path.{◌≡◌, refl, sym, ap, ◌∙◌}
-use Prim.Native.Nat.{◌+◌, ◌-◌, ◌*◌}
-use native.Mathlib.Omega.{arith}
+use mathlib.Core.List.{◌++◌}
+use mathlib.Core.Path.{◌≡◌}
+use Prim.Native.Nat.{◌+◌}
 use lib.ListN.{length, take}
 use Rattle.model.specs.Bytes.{view}
-use Rattle.model.specs.Directory.{at, active, next, chain, slots}
+use Rattle.model.specs.Directory.{active, chain, slots}
 use Rattle.checks.specs.Inside.{Inside, actives}
-use borrow.Author.Rules.{rules}
 use Rattle.checks.proofs.gather_in_blocks.Given as goal
 
 abbrev pub invariant-loop-left : goal.invariant-loop-left

@@ -1,7 +1,6 @@
 -- `checks::header_fits` meets its contract. One test after the other, as the definition has them.
 use borrow.Author.Tests.{eq-eqb, ne_eqb}
 use Rattle.model.specs.Bytes.{◌and◌}
-use borrow.Author.Rules.{rules}
 use Rattle.checks.proofs.header_fits.Goals as goal
 
 pub returns-then-img-key : goal.returns-then-img-key

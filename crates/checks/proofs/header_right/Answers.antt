@@ -1,5 +1,4 @@
 -- `checks::header_right` meets its contract. The faults are none where the three tests hold.
-use borrow.Author.Tests.{not-true, not-false}
 use Rattle.model.specs.Directory.{at}
 use Rattle.checks.proofs.Laws.{header_is}
 use Rattle.model.specs.Bytes.{◌and◌}

@@ -4,7 +4,6 @@ use native.Mathlib.Omega.{arith}
 use Rattle.model.specs.Bytes.{view}
 use Rattle.model.specs.Directory.{at}
 use Rattle.checks.proofs.Laws.{active_is}
-use borrow.Author.Rules.{rules}
 use Rattle.checks.proofs.is_active.Goals as goal
 
 pub bounds-img-address : goal.bounds-img-address

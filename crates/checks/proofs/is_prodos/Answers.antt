@@ -2,7 +2,6 @@
 use borrow.Author.Tests.{eq-eqb, ne_eqb}
 use Rattle.checks.proofs.Laws.{prodos_is}
 use Rattle.model.specs.Bytes.{◌and◌}
-use borrow.Author.Rules.{rules}
 use Rattle.checks.proofs.is_prodos.Goals as goal
 
 pub returns-then-get_word-ne0 : goal.returns-then-get_word-ne0

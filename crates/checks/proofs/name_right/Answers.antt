@@ -5,7 +5,6 @@ use native.Mathlib.Omega.{arith}
 use Rattle.model.specs.Bytes.{view}
 use Rattle.model.specs.Names.{capital_name}
 use Rattle.names.proofs.PartLaws.{part_run, slot_capital}
-use borrow.Author.Rules.{rules}
 use Rattle.checks.proofs.name_right.Goals as goal
 
 pub returns : goal.returns

@@ -1,7 +1,6 @@
 -- `checks::points_at` meets its contract. One test after the other, as the definition has them.
 use borrow.Author.Tests.{eq-eqb, ne_eqb}
 use Rattle.model.specs.Bytes.{◌and◌}
-use borrow.Author.Rules.{rules}
 use Rattle.checks.proofs.points_at.Goals as goal
 
 pub returns-then-get_word-place : goal.returns-then-get_word-place

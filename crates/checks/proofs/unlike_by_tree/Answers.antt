@@ -11,7 +11,6 @@ use Rattle.model.specs.Sound.{twins}
 use Rattle.twins.specs.Twins.{no_twins}
 use Rattle.checks.proofs.Laws.{no_slots}
 use Rattle.checks.proofs.Gathered.{twins_actives, entries_stored, few_active}
-use borrow.Author.Rules.{rules}
 use Rattle.checks.proofs.unlike_by_tree.Goals as goal
 
 pub returns-then-used-eq0 : goal.returns-then-used-eq0

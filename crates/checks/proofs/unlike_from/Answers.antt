@@ -1,14 +1,10 @@
 -- `checks::unlike_from` meets its contract. What is still to be compared decides. The measure is the places left.
-use mathlib.Core.Path.{◌≡◌, refl, sym, ap, ◌∙◌}
-use Prim.Native.Nat.{◌+◌, ◌-◌, ◌*◌, ◌≤◌}
+use mathlib.Core.Path.{refl, sym, ap, ◌∙◌}
 use native.Mathlib.Omega.{arith}
 use Rattle.model.specs.Bytes.{◌and◌, view}
 use lib.Dec.{eqb}
-use borrow.Author.Tests.{not-true, not-false}
 use Rattle.model.specs.Sound.{twins}
-use Rattle.checks.specs.Inside.{ahead}
 use Rattle.checks.proofs.Laws.{ahead_end, unlike_skip, unlike_more, unlike_not}
-use borrow.Author.Rules.{rules}
 use Rattle.checks.proofs.unlike_from.Goals as goal
 use Rattle.checks.proofs.unlike_from.Goals.{then-is_active+else-not-alone_ahead, else-is_active}
 

@@ -1,15 +1,10 @@
 -- `checks::unlike_from` meets its contract. What is still to be compared decides. The measure is the places left.
-use mathlib.Core.Path.{◌≡◌, refl, sym, ap, ◌∙◌}
+use mathlib.Core.Path.{◌≡◌}
 use Prim.Native.Nat.{◌+◌, ◌-◌, ◌*◌, ◌≤◌}
-use native.Mathlib.Omega.{arith}
-use Rattle.model.specs.Bytes.{◌and◌, view}
+use Rattle.model.specs.Bytes.{view}
 use lib.Dec.{eqb}
-use mathlib.Core.Logic.{⊎_elim}
-use borrow.Author.Tests.{not-true, not-false}
 use Rattle.model.specs.Sound.{twins}
 use Rattle.checks.specs.Inside.{ahead}
-use Rattle.checks.proofs.Laws.{ahead_end, unlike_skip, unlike_more, unlike_not}
-use borrow.Author.Rules.{rules}
 use Rattle.checks.proofs.unlike_from.Given as goal
 
 abbrev pub invariant-loop-place : goal.invariant-loop-place

@@ -1,14 +1,10 @@
 -- `checks::unlike_in_blocks` meets its contract. What is still to be compared decides. The measure is the blocks left.
-use mathlib.Core.Path.{◌≡◌, refl, sym, ap, ◌∙◌}
+use mathlib.Core.Path.{refl, sym, ap, ◌∙◌}
 use native.Mathlib.Omega.{arith}
 use Rattle.model.specs.Bytes.{◌and◌, view}
-use Rattle.model.specs.Directory.{chain, slots}
-use Rattle.checks.specs.Inside.{Inside}
 use lib.Dec.{eqb}
-use borrow.Author.Tests.{not-true, not-false}
 use Rattle.model.specs.Sound.{twins}
 use Rattle.checks.proofs.Laws.{inside_chain, slots_chain, unlike_none}
-use borrow.Author.Rules.{rules}
 use Rattle.checks.proofs.unlike_in_blocks.Goals as goal
 
 pub loop-left-init : goal.loop-left-init

@@ -5,7 +5,6 @@ use lib.Dec.{eqb}
 use Rattle.model.specs.Bytes.{◌and◌, view}
 use Rattle.model.specs.Directory.{next}
 use Rattle.checks.proofs.Laws.{volume_is}
-use borrow.Author.Rules.{rules}
 use Rattle.checks.proofs.volume_right.Goals as goal
 
 pub returns-then-next_of-ne3 : goal.returns-then-next_of-ne3

@@ -12,7 +12,6 @@ use Rattle.entries.proofs.LastLaws.{last_size, last_entry, last_subdirectory}
 use Rattle.create.specs.Entered.{create_in}
 use Rattle.create.proofs.HousedLaws.{housed_in, kind_small}
 use Rattle.create.proofs.CallLaws.{create_refused, create_housed, in_same}
-use borrow.Author.Rules.{rules}
 use Rattle.create.proofs.create.Goals as goal
 
 pub create_in-requires : goal.create_in-requires

@@ -11,7 +11,6 @@ use Rattle.model.specs.declared.Refusal.TheVariants.{NoRoom}
 use Rattle.directory.specs.Slots.{place_number}
 use Rattle.create.specs.Entered.{asked}
 use Rattle.create.proofs.EnteredLaws.{slot_none, slot_room, in_no, in_yes, found_lowest, found_low, slot_inside, slot_image}
-use borrow.Author.Rules.{rules}
 use Rattle.create.proofs.create_at.Goals as goal
 
 pub free_blocks-requires : goal.free_blocks-requires

@@ -12,7 +12,6 @@ use Rattle.directory.specs.Slots.{place_number}
 use Rattle.directory.proofs.SlotLaws.{at_place, place_one}
 use Rattle.create.specs.Entered.{asked}
 use Rattle.create.proofs.EnteredLaws.{full_volume, full_none, full_room, in_no, in_yes, found_lowest, found_low, full_gained, full_image}
-use borrow.Author.Rules.{rules}
 use Rattle.create.proofs.create_behind.Goals as goal
 
 pub returns-then-home-eq-VOLUME_BLOCK : goal.returns-then-home-eq-VOLUME_BLOCK

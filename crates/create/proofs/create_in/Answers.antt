@@ -3,7 +3,6 @@ use mathlib.Core.Path.{sym, ap, ◌∙◌}
 use Rattle.model.specs.Bytes.{view}
 use Rattle.model.specs.Directory.{vacant}
 use Rattle.directory.proofs.AnswerLaws.{vacancy_some, vacancy_none}
-use borrow.Author.Rules.{rules}
 use Rattle.create.proofs.create_in.Goals as goal
 
 pub create_at-requires : goal.create_at-requires

@@ -12,7 +12,6 @@ use Rattle.directory.proofs.SlotLaws.{at_place}
 use Rattle.entries.proofs.Laws.{slot_back}
 use Rattle.create.specs.Entered.{asked}
 use Rattle.create.proofs.EnteredLaws.{entered_image}
-use borrow.Author.Rules.{rules}
 use Rattle.create.proofs.enter.Goals as goal
 
 pub overflow_add-end : goal.overflow_add-end

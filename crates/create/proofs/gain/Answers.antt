@@ -1,7 +1,6 @@
 -- `create::gain` meets its contract. Each store is one layer of the definition; EOF was read before them.
 use Rattle.model.specs.Bytes.{view}
 use Rattle.create.proofs.EnteredLaws.{gained_image}
-use borrow.Author.Rules.{rules}
 use Rattle.create.proofs.gain.Goals as goal
 
 pub returns : goal.returns

@@ -5,7 +5,6 @@ use Rattle.model.specs.Bytes.{view}
 use Rattle.model.specs.Calls.{target}
 use Rattle.opening.proofs.SaneLaws.{sane}
 use Rattle.create.proofs.HousedLaws.{housed_from, housed_from_law}
-use borrow.Author.Rules.{rules}
 use Rattle.create.proofs.housed_at.Goals as goal
 
 pub lookup-requires : goal.lookup-requires

@@ -2,11 +2,9 @@
 use mathlib.Core.Path.{refl, sym, ◌∙◌}
 use mathlib.Core.Bool.{true, false}
 use lib.ListN.{length}
-use borrow.Author.Tests.{not-true, not-false}
 use Rattle.model.specs.Bytes.{view}
 use Rattle.opening.proofs.VolumeLaws.{volume_sound}
 use Rattle.create.proofs.HousedLaws.{housed_refused, housed_on_law}
-use borrow.Author.Rules.{rules}
 use Rattle.create.proofs.housed_by.Goals as goal
 
 pub returns-then-not-is_proper_path : goal.returns-then-not-is_proper_path

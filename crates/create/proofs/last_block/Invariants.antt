@@ -1,12 +1,10 @@
 -- `create::last_block` meets its contract. The loop's invariant: the last block of what is left is that of the chain. The measure is the blocks left.
-use native.Mathlib.Omega.{arith}
 use Prim.Native.Nat.{◌<◌}
-use mathlib.Core.Path.{◌≡◌, refl, sym, ◌∙◌}
+use mathlib.Core.Path.{◌≡◌}
 use Rattle.model.specs.Bytes.{view}
 use Rattle.model.specs.Directory.{chain}
 use Rattle.model.specs.Create.{last_block}
 use Rattle.directory.specs.Search.{Each}
-use Rattle.create.proofs.EnteredLaws.{last_step, last_end, chain_low, chain_rest}
 use Rattle.create.proofs.last_block.Given as goal
 
 abbrev pub invariant-loop-left : goal.invariant-loop-left

@@ -4,7 +4,6 @@ use Prim.Native.Nat.{◌+◌, ◌*◌}
 use mathlib.Core.Path.{ap, ◌∙◌}
 use Rattle.model.specs.Bytes.{Bytes, put_word}
 use Rattle.model.specs.Map.{map_at}
-use borrow.Author.Rules.{rules}
 use Rattle.create.proofs.link.Goals as goal
 
 pub take-requires : goal.take-requires

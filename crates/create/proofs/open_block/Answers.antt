@@ -12,7 +12,6 @@ use Rattle.directory.specs.Slots.{place_number}
 use Rattle.entries.proofs.Laws.{slot_back}
 use Rattle.create.specs.Entered.{asked}
 use Rattle.create.proofs.EnteredLaws.{fresh_file, fresh_directory}
-use borrow.Author.Rules.{rules}
 use Rattle.create.proofs.open_block.Goals as goal
 
 pub take-requires : goal.take-requires

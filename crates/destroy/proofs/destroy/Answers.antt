@@ -3,7 +3,6 @@ use mathlib.Core.Path.{sym, ◌∙◌}
 use lib.ListN.{length}
 use Rattle.model.specs.Bytes.{view}
 use Rattle.destroy.proofs.Laws.{destroy_refused, destroy_volume, destroy_entry}
-use borrow.Author.Rules.{rules}
 use Rattle.destroy.proofs.destroy.Goals as goal
 
 pub destroy_entry-requires : goal.destroy_entry-requires

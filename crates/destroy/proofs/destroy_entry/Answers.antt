@@ -3,13 +3,11 @@ use Rattle.destroy.proofs.Laws.{gone_image}
 use native.Mathlib.Omega.{arith}
 use mathlib.Core.Path.{◌≡◌, sym, ◌∙◌}
 use lib.ListN.{length}
-use borrow.Author.Tests.{not-true, not-false}
 use Rattle.model.specs.Bytes.{view}
 use Rattle.model.specs.Directory.{at}
 use Rattle.directory.specs.Slots.{place_number}
 use Rattle.directory.proofs.SlotLaws.{at_place}
 use Rattle.destroy.proofs.Laws.{gone_no, gone_yes}
-use borrow.Author.Rules.{rules}
 use Rattle.destroy.proofs.destroy_entry.Goals as goal
 
 pub may_destroy-requires : goal.may_destroy-requires

@@ -6,7 +6,6 @@ use Rattle.model.specs.Directory.{map_place}
 use Rattle.model.specs.Calls.{given_all}
 use Rattle.destroy.specs.Gone.{entry_blocks}
 use Rattle.destroy.proofs.Laws.{height_low, blocks_chain, blocks_tree}
-use borrow.Author.Rules.{rules}
 use Rattle.destroy.proofs.give_blocks.Goals as goal
 
 pub give_chain-requires : goal.give_chain-requires

@@ -6,7 +6,6 @@ use Rattle.model.specs.Bytes.{view}
 use Rattle.model.specs.Kinds.{key_of}
 use Rattle.destroy.specs.Gone.{bare}
 use Rattle.destroy.proofs.Laws.{may_not, may_bare}
-use borrow.Author.Rules.{rules}
 use Rattle.destroy.proofs.may_destroy.Goals as goal
 
 pub returns-then-entry-ne1 : goal.returns-then-entry-ne1

@@ -2,7 +2,6 @@
 use mathlib.Core.Path.{◌≡◌, sym, ap, ◌∙◌}
 use Prim.Native.Nat.{◌/◌}
 use native.Mathlib.Omega.{arith}
-use borrow.Author.Rules.{rules}
 use Rattle.model.specs.Bytes.{view}
 use Rattle.model.specs.Directory.{inactive, directory, improper, file, sort_of}
 use Rattle.model.specs.declared.Kind.TheVariants.{Seedling, Sapling, Tree, Directory}

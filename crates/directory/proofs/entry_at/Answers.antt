@@ -2,7 +2,6 @@
 use mathlib.Core.Path.{◌∙◌}
 use Prim.Native.Nat.{◌+◌, ◌-◌}
 use native.Mathlib.Omega.{arith}
-use borrow.Author.Rules.{rules}
 use Rattle.directory.specs.Slots.{place_number}
 use Rattle.directory.proofs.SlotLaws.{at_place, slot_decoded}
 use Rattle.directory.proofs.entry_at.Goals as goal

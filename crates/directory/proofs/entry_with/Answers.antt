@@ -1,5 +1,4 @@
 -- `directory::entry_with` meets its contract: each field is what its call says.
-use borrow.Author.Rules.{rules}
 use Rattle.directory.specs.Slots.{entry_with}
 use Rattle.directory.proofs.entry_with.Goals as goal
 

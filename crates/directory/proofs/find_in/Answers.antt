@@ -1,13 +1,8 @@
 -- `directory::find_in` meets its contract: the loop's invariant: what is left of the chain decides.
-use mathlib.Core.Path.{◌≡◌, refl, sym, ◌∙◌}
-use lib.ListN.{length}
+use mathlib.Core.Path.{refl, sym, ◌∙◌}
 use native.Mathlib.Omega.{arith}
-use borrow.Author.Rules.{rules}
 use Rattle.model.specs.Bytes.{view}
-use Rattle.model.specs.Names.{part}
-use Rattle.model.specs.Directory.{seek}
-use Rattle.directory.specs.Search.{listed}
-use Rattle.directory.proofs.SearchLaws.{rest, rest_done, Searching, searching, searching_block, searching_slots, searching_next, seek_block, seek_none, found_stays, found_rest}
+use Rattle.directory.proofs.SearchLaws.{rest_done, searching, searching_block, searching_slots, searching_next, seek_block, seek_none, found_stays, found_rest}
 use Rattle.directory.proofs.find_in.Goals as goal
 
 pub loop-left-init : goal.loop-left-init

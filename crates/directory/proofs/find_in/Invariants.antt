@@ -1,13 +1,11 @@
 -- `directory::find_in` meets its contract: the loop's invariant: what is left of the chain decides.
-use mathlib.Core.Path.{◌≡◌, refl, sym, ◌∙◌}
+use mathlib.Core.Path.{◌≡◌}
 use lib.ListN.{length}
-use native.Mathlib.Omega.{arith}
-use borrow.Author.Rules.{rules}
 use Rattle.model.specs.Bytes.{view}
 use Rattle.model.specs.Names.{part}
 use Rattle.model.specs.Directory.{seek}
 use Rattle.directory.specs.Search.{listed}
-use Rattle.directory.proofs.SearchLaws.{rest, rest_done, Searching, searching, searching_block, searching_slots, searching_next, seek_block, seek_none, found_stays, found_rest}
+use Rattle.directory.proofs.SearchLaws.{rest, Searching}
 use Rattle.directory.proofs.find_in.Given as goal
 
 abbrev pub invariant-loop-left : goal.invariant-loop-left

@@ -1,14 +1,11 @@
 -- `directory::find_in_block` meets its contract: the loop's invariant: the slots from `slot` on decide.
-use mathlib.Core.Path.{◌≡◌, refl, sym, ◌∙◌}
+use mathlib.Core.Path.{◌≡◌}
 use Prim.Native.Nat.{◌≤◌, ◌-◌}
 use lib.ListN.{length}
-use native.Mathlib.Omega.{arith}
-use borrow.Author.Rules.{rules}
 use Rattle.model.specs.Bytes.{view}
 use Rattle.model.specs.Names.{part}
-use Rattle.model.specs.Directory.{place, seek}
+use Rattle.model.specs.Directory.{seek}
 use Rattle.directory.specs.Search.{Each, Readable, slots_from}
-use Rattle.directory.proofs.SearchLaws.{each_head, each_tail, seek_slot, seek_none, found_stays, found_rest, slots_more, slots_done}
 use Rattle.directory.proofs.find_in_block.Given as goal
 
 abbrev pub invariant-loop-slot : goal.invariant-loop-slot

@@ -1,16 +1,14 @@
 -- `directory::follow` meets its contract: the loop's invariant: the names from the cursor on, from `home` on, decide.
 use mathlib.Core.Path.{◌≡◌, refl, sym, ap, ◌∙◌}
-use Prim.Native.Nat.{◌-◌, ◌<◌}
+use Prim.Native.Nat.{◌<◌}
 use lib.ListN.{length}
 use native.Mathlib.Omega.{arith}
-use borrow.Author.Rules.{rules}
 use Rattle.model.specs.Bytes.{view}
-use Rattle.model.specs.Directory.{volume, place, field, along}
-use Rattle.names.specs.Steps.{parts_left}
+use Rattle.model.specs.Directory.{place, field}
 use Rattle.names.proofs.CursorLaws.{Stepped, step_found, stepped_bounds}
 use Rattle.directory.specs.Search.{listed, found_in}
 use Rattle.directory.specs.Lookup.{top}
-use Rattle.directory.proofs.LookupLaws.{stepped_within, no_end, no_bad, Walking, walking_searchable, turn_last, turn_stops, turn_on}
+use Rattle.directory.proofs.LookupLaws.{stepped_within, no_end, no_bad, walking_searchable, turn_last, turn_stops, turn_on}
 use Rattle.directory.proofs.follow.Goals as goal
 
 pub loop-start-init : goal.loop-start-init

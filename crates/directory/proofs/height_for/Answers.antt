@@ -1,9 +1,8 @@
 -- `directory::height_for` meets its contract: the number of the kind, which is 1 to 3, less 1.
-use mathlib.Core.Path.{◌≡◌, ap, ◌∙◌}
+use mathlib.Core.Path.{ap, ◌∙◌}
 use Prim.Native.Nat.{ℕ, ◌-◌}
 use native.Mathlib.Omega.{arith}
-use borrow.Author.Rules.{rules}
-use Rattle.model.specs.Kinds.{kind_number, kind_for}
+use Rattle.model.specs.Kinds.{kind_number}
 use Rattle.model.specs.File.{height_for}
 use Rattle.model.specs.declared.Kind.{Kind}
 use Rattle.model.proofs.Laws.Entry.{height_most}

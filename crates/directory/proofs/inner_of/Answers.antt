@@ -1,6 +1,5 @@
 -- `directory::inner_of` meets its contract: each case of the match is one of inner_of.
 use mathlib.Core.Path.{sym, ap, ◌∙◌}
-use borrow.Author.Rules.{rules}
 use Rattle.directory.specs.Lookup.{inner_as, inner_of}
 use Rattle.directory.proofs.inner_of.Goals as goal
 

@@ -1,6 +1,5 @@
 -- `directory::last_of` meets its contract: each case of the match is one of last_of.
 use mathlib.Core.Path.{sym, ap}
-use borrow.Author.Rules.{rules}
 use Rattle.directory.specs.Lookup.{last_of}
 use Rattle.directory.proofs.last_of.Goals as goal
 

@@ -3,10 +3,8 @@ use mathlib.Core.Path.{sym, ap, ◌∙◌}
 use Prim.Native.Nat.{◌<◌}
 use lib.ListN.{length}
 use native.Mathlib.Omega.{arith}
-use borrow.Author.Tests.{not-true, not-false}
-use borrow.Author.Rules.{rules}
 use Rattle.model.specs.Bytes.{view}
-use Rattle.model.specs.Directory.{at, volume, along}
+use Rattle.model.specs.Directory.{volume, along}
 use Rattle.names.specs.Steps.{step_at, parts_left}
 use Rattle.names.proofs.CursorLaws.{Stepped, step_found, stepped_bounds, stepped_proper}
 use Rattle.directory.specs.Lookup.{looked_as}

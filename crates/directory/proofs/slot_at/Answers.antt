@@ -1,6 +1,5 @@
 -- `directory::slot_at` meets its contract: the address in numbers.
 use native.Mathlib.Omega.{arith}
-use borrow.Author.Rules.{rules}
 use Rattle.model.specs.Directory.{at, place}
 use Rattle.directory.proofs.slot_at.Goals as goal
 

@@ -1,5 +1,4 @@
 -- `directory::stamp_at` meets its contract: two words.
-use borrow.Author.Rules.{rules}
 use Rattle.model.specs.Info.{stamp_at}
 use Rattle.directory.proofs.stamp_at.Goals as goal
 

@@ -1,6 +1,5 @@
 -- `directory::vacant_at` meets its contract: an inactive slot is vacant.
 use mathlib.Core.Path.{sym, ◌∙◌}
-use borrow.Author.Rules.{rules}
 use Rattle.model.specs.Bytes.{view}
 use Rattle.model.specs.Directory.{at, sort}
 use Rattle.directory.specs.Slots.{place_number, entry_of}

@@ -1,11 +1,8 @@
 -- `directory::vacant_in` meets its contract: the loop's invariant: what is left of the chain decides.
-use mathlib.Core.Path.{◌≡◌, refl, sym, ◌∙◌}
+use mathlib.Core.Path.{refl, sym, ◌∙◌}
 use native.Mathlib.Omega.{arith}
-use borrow.Author.Rules.{rules}
 use Rattle.model.specs.Bytes.{view}
-use Rattle.model.specs.Directory.{vacant}
-use Rattle.directory.specs.Search.{listed}
-use Rattle.directory.proofs.SearchLaws.{rest, rest_done, Searching, searching, searching_block, searching_slots, searching_next, vacant_block, vacant_none, vacancy_stays, vacancy_rest}
+use Rattle.directory.proofs.SearchLaws.{rest_done, searching, searching_block, searching_slots, searching_next, vacant_block, vacant_none, vacancy_stays, vacancy_rest}
 use Rattle.directory.proofs.vacant_in.Goals as goal
 
 pub loop-left-init : goal.loop-left-init

@@ -1,11 +1,9 @@
 -- `directory::vacant_in_block` meets its contract: the loop's invariant: the slots from `slot` on decide.
-use mathlib.Core.Path.{◌≡◌, refl, sym, ◌∙◌}
-use Prim.Native.Nat.{◌≤◌, ◌-◌}
+use mathlib.Core.Path.{refl, sym, ◌∙◌}
 use native.Mathlib.Omega.{arith}
-use borrow.Author.Rules.{rules}
 use Rattle.model.specs.Bytes.{view}
-use Rattle.model.specs.Directory.{place, vacant}
-use Rattle.directory.specs.Search.{Each, Readable, slots_from}
+use Rattle.model.specs.Directory.{place}
+use Rattle.directory.specs.Search.{Readable}
 use Rattle.directory.proofs.SearchLaws.{each_head, each_tail, vacant_slot, vacant_none, vacancy_stays, vacancy_rest, slots_more, slots_done}
 use Rattle.directory.proofs.vacant_in_block.Goals as goal
 

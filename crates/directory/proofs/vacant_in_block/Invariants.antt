@@ -1,12 +1,9 @@
 -- `directory::vacant_in_block` meets its contract: the loop's invariant: the slots from `slot` on decide.
-use mathlib.Core.Path.{◌≡◌, refl, sym, ◌∙◌}
+use mathlib.Core.Path.{◌≡◌}
 use Prim.Native.Nat.{◌≤◌, ◌-◌}
-use native.Mathlib.Omega.{arith}
-use borrow.Author.Rules.{rules}
 use Rattle.model.specs.Bytes.{view}
-use Rattle.model.specs.Directory.{place, vacant}
+use Rattle.model.specs.Directory.{vacant}
 use Rattle.directory.specs.Search.{Each, Readable, slots_from}
-use Rattle.directory.proofs.SearchLaws.{each_head, each_tail, vacant_slot, vacant_none, vacancy_stays, vacancy_rest, slots_more, slots_done}
 use Rattle.directory.proofs.vacant_in_block.Given as goal
 
 abbrev pub invariant-loop-slot : goal.invariant-loop-slot

@@ -1,6 +1,5 @@
 -- `entries::backed_up` meets its contract: the bit is there, or is added.
 use Rattle.entries.proofs.Laws.{backed_is, backed_more}
-use borrow.Author.Rules.{rules}
 use Rattle.entries.proofs.backed_up.Goals as goal
 
 pub returns-then-access-eq1 : goal.returns-then-access-eq1

@@ -1,12 +1,9 @@
 -- `entries::put_capitals` meets its contract. The first i capitals are pasted after i turns.
-use mathlib.Core.Path.{◌≡◌, refl, sym, ap, ◌∙◌}
-use Prim.Native.Nat.{◌+◌, ◌-◌, ◌≤◌}
-use native.Mathlib.Omega.{arith}
-use lib.ListN.{length, length-set}
-use borrow.Author.Rules.{rules}
-use Rattle.model.specs.Bytes.{view, put, paste}
+use mathlib.Core.Path.{◌≡◌}
+use Prim.Native.Nat.{◌-◌, ◌≤◌}
+use lib.ListN.{length}
+use Rattle.model.specs.Bytes.{view, paste}
 use Rattle.model.specs.Names.{capitals}
-use Rattle.model.proofs.ByteLaws.{view_set, paste_none, paste_more}
 use Rattle.entries.proofs.put_capitals.Given as goal
 
 abbrev pub invariant-loop-stored : goal.invariant-loop-stored

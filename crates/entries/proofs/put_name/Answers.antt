@@ -6,7 +6,6 @@ use lib.ListN.{length}
 use Rattle.model.specs.Bytes.{view, put, paste}
 use Rattle.model.specs.Names.{capitals}
 use Rattle.entries.proofs.Laws.{name_stored}
-use borrow.Author.Rules.{rules}
 use Rattle.entries.proofs.put_name.Goals as goal
 
 pub returns : goal.returns

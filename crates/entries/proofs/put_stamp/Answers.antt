@@ -1,7 +1,6 @@
 -- `entries::put_stamp` meets its contract. Two words, one behind the other.
 use mathlib.Core.Path.{ap, ◌∙◌}
 use Prim.Native.Nat.{◌+◌}
-use borrow.Author.Rules.{rules}
 use Rattle.model.specs.Bytes.{view, put_word}
 use Rattle.entries.proofs.Laws.{stamp_stored}
 use Rattle.entries.proofs.put_stamp.Goals as goal

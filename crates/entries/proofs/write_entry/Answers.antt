@@ -4,7 +4,6 @@ use Rattle.model.specs.Bytes.{put, put_word}
 use Rattle.model.specs.Calls.{put_stamp}
 use Rattle.model.specs.Create.{entry_bytes}
 use Rattle.entries.specs.Fields.{first_eof}
-use borrow.Author.Rules.{rules}
 use Rattle.entries.proofs.write_entry.Goals as goal
 
 pub returns : goal.returns

@@ -1,7 +1,6 @@
 -- `entries::write_front` meets its contract. Field by field, in the order of the definition.
 use mathlib.Core.Path.{ap, ◌∙◌}
 use Rattle.model.specs.Bytes.{put_long, put_word, put}
-use borrow.Author.Rules.{rules}
 use Rattle.entries.proofs.write_front.Goals as goal
 
 pub returns : goal.returns

@@ -3,7 +3,6 @@ use mathlib.Core.Path.{ap, ◌∙◌}
 use Rattle.model.specs.Bytes.{put}
 use Rattle.model.specs.Calls.{put_stamp}
 use Rattle.model.specs.Format.{header_bytes}
-use borrow.Author.Rules.{rules}
 use Rattle.entries.proofs.write_header.Goals as goal
 
 pub returns : goal.returns

@@ -6,7 +6,6 @@ use Rattle.model.specs.Bytes.{view}
 use Rattle.model.specs.Names.{part}
 use Rattle.model.specs.Calls.{put_name}
 use Rattle.entries.proofs.Laws.{slot_cleared, slot_named}
-use borrow.Author.Rules.{rules}
 use Rattle.entries.proofs.write_name.Goals as goal
 
 pub returns : goal.returns

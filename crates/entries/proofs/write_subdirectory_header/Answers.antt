@@ -6,7 +6,6 @@ use native.Mathlib.Omega.{arith}
 use Rattle.model.specs.Bytes.{put, put_word}
 use Rattle.model.specs.Directory.{place}
 use Rattle.model.specs.Create.{subdirectory_header}
-use borrow.Author.Rules.{rules}
 use Rattle.entries.proofs.write_subdirectory_header.Goals as goal
 
 pub returns : goal.returns

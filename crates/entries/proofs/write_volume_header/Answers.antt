@@ -2,7 +2,6 @@
 use mathlib.Core.Path.{ap, ◌∙◌}
 use Rattle.model.specs.Bytes.{put_word}
 use Rattle.model.specs.Format.{volume_header}
-use borrow.Author.Rules.{rules}
 use Rattle.entries.proofs.write_volume_header.Goals as goal
 
 pub returns : goal.returns

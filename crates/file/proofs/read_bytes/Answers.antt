@@ -1,8 +1,7 @@
 -- `file::read_bytes` meets its contract. After each turn the first bytes of the buffer are the file's, as many as are done.
 use mathlib.Core.Path.{◌≡◌, refl, sym, ap, ◌∙◌}
-use Prim.Native.Nat.{◌+◌, ◌-◌, ◌%◌, ◌≤◌}
+use Prim.Native.Nat.{◌+◌, ◌%◌}
 use native.Mathlib.Omega.{arith}
-use lib.ListN.{length}
 use Rattle.model.specs.Bytes.{view, paste, from}
 use Rattle.model.specs.File.{file_byte}
 use Rattle.model.proofs.ByteLaws.{paste_none}

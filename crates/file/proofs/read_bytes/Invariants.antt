@@ -1,14 +1,9 @@
 -- `file::read_bytes` meets its contract. After each turn the first bytes of the buffer are the file's, as many as are done.
-use mathlib.Core.Path.{◌≡◌, refl, sym, ap, ◌∙◌}
-use Prim.Native.Nat.{◌+◌, ◌-◌, ◌%◌, ◌≤◌}
-use native.Mathlib.Omega.{arith}
+use mathlib.Core.Path.{◌≡◌}
+use Prim.Native.Nat.{◌-◌, ◌≤◌}
 use lib.ListN.{length}
 use Rattle.model.specs.Bytes.{view, paste, from}
 use Rattle.model.specs.File.{file_byte}
-use Rattle.model.proofs.ByteLaws.{paste_none}
-use Rattle.file.specs.Runs.{run_in}
-use Rattle.file.proofs.Laws.{run_on}
-use borrow.Author.Rules.{rules}
 use Rattle.file.proofs.read_bytes.Given as goal
 
 abbrev pub invariant-loop-done : goal.invariant-loop-done

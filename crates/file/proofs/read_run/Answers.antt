@@ -1,7 +1,6 @@
 -- `file::read_run` meets its contract: zeros for a hole, otherwise the bytes of the block.
 use mathlib.Core.Path.{◌∙◌}
 use native.Mathlib.Omega.{arith}
-use borrow.Author.Rules.{rules}
 use Rattle.model.specs.Bytes.{view}
 use Rattle.file.proofs.Laws.{hole_run, block_run}
 use Rattle.file.proofs.read_run.Goals as goal

@@ -1,7 +1,6 @@
 -- `format::bit_of` meets its contract. A block that is free counts its weight.
 use native.Mathlib.Omega.{arith}
 use Rattle.format.proofs.Laws.{bit_none, bit_one}
-use borrow.Author.Rules.{rules}
 use Rattle.format.proofs.bit_of.Goals as goal
 
 pub returns-then-block-free : goal.returns-then-block-free

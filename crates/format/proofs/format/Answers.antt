@@ -1,12 +1,10 @@
 -- `format::format` meets its contract. The two refusals, then the work.
 use mathlib.Core.Path.{sym, ◌∙◌}
-use borrow.Author.Tests.{not-true, not-false}
 use native.Mathlib.Omega.{arith}
 use lib.ListN.{length}
 use Rattle.model.specs.Bytes.{view}
 use Rattle.names.proofs.CursorLaws.{name_size_law}
 use Rattle.format.proofs.Laws.{whole_facts, format_size, format_name, format_done}
-use borrow.Author.Rules.{rules}
 use Rattle.format.proofs.format.Goals as goal
 
 pub returns-then-not-is_whole : goal.returns-then-not-is_whole

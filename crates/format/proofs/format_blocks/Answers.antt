@@ -9,7 +9,6 @@ use Rattle.model.specs.Map.{map_blocks, fresh_map}
 use Rattle.model.specs.Directory.{at, volume_chain}
 use Rattle.model.specs.Format.{linked, volume_header, formatted}
 use Rattle.entries.proofs.Laws.{all_cleared}
-use borrow.Author.Rules.{rules}
 use Rattle.format.proofs.format_blocks.Goals as goal
 
 pub put_map-requires : goal.put_map-requires

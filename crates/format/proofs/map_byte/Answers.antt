@@ -1,7 +1,6 @@
 -- `format::map_byte` meets its contract. A whole byte, or bit by bit.
 use native.Mathlib.Omega.{arith}
 use Rattle.format.proofs.Laws.{fresh_whole}
-use borrow.Author.Rules.{rules}
 use Rattle.format.proofs.map_byte.Goals as goal
 
 pub returns-then-block-n : goal.returns-then-block-n

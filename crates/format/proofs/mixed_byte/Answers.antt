@@ -1,10 +1,9 @@
 -- `format::mixed_byte` meets its contract. The first i bits are counted after i turns.
 use mathlib.Core.Path.{◌≡◌, ap, ◌∙◌}
-use Prim.Native.Nat.{◌+◌, ◌-◌, ◌*◌, ◌≤◌}
+use Prim.Native.Nat.{◌+◌}
 use native.Mathlib.Omega.{arith}
 use Rattle.model.specs.Map.{fresh_bits}
 use Rattle.format.proofs.Laws.{fresh_none, fresh_next}
-use borrow.Author.Rules.{rules}
 use Rattle.format.proofs.mixed_byte.Goals as goal
 
 pub loop-i-init : goal.loop-i-init

@@ -3,7 +3,6 @@ use mathlib.Core.Path.{refl, ◌∙◌}
 use native.Mathlib.Omega.{arith}
 use Rattle.model.proofs.ByteLaws.{length_part}
 use Rattle.entries.proofs.Laws.{slot_back}
-use borrow.Author.Rules.{rules}
 use Rattle.format.proofs.put_header.Goals as goal
 
 pub returns : goal.returns

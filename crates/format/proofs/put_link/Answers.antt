@@ -2,7 +2,6 @@
 use mathlib.Core.Path.{ap, ◌∙◌}
 use Prim.Native.Nat.{◌+◌, ◌*◌}
 use Rattle.model.specs.Bytes.{put_word}
-use borrow.Author.Rules.{rules}
 use Rattle.format.proofs.put_link.Goals as goal
 
 pub returns : goal.returns

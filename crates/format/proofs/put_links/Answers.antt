@@ -2,7 +2,6 @@
 use mathlib.Core.Path.{ap, ◌∙◌}
 use Rattle.model.specs.Bytes.{Bytes, put_word}
 use Rattle.model.specs.Format.{linked}
-use borrow.Author.Rules.{rules}
 use Rattle.format.proofs.put_links.Goals as goal
 
 pub returns : goal.returns

@@ -1,6 +1,6 @@
 -- `format::put_map` meets its contract. The first j bytes of the map are there after j turns.
 use mathlib.Core.Path.{◌≡◌, refl, sym, ap, ◌∙◌}
-use Prim.Native.Nat.{◌+◌, ◌-◌, ◌*◌, ◌≤◌, ◌<◌}
+use Prim.Native.Nat.{◌+◌, ◌*◌, ◌<◌}
 use native.Mathlib.Omega.{arith}
 use lib.ListN.{length, length-set}
 use Rattle.model.specs.Bytes.{view, put, paste}

@@ -1,13 +1,9 @@
 -- `format::put_map` meets its contract. The first j bytes of the map are there after j turns.
-use mathlib.Core.Path.{◌≡◌, refl, sym, ap, ◌∙◌}
-use Prim.Native.Nat.{◌+◌, ◌-◌, ◌*◌, ◌≤◌, ◌<◌}
-use native.Mathlib.Omega.{arith}
-use lib.ListN.{length, length-set}
-use Rattle.model.specs.Bytes.{view, put, paste}
-use Rattle.model.specs.Map.{map_blocks, fresh_map}
-use Rattle.model.proofs.ByteLaws.{view_set, paste_none, paste_more}
-use Rattle.model.proofs.BitLaws.{fresh_byte}
-use borrow.Author.Rules.{rules}
+use mathlib.Core.Path.{◌≡◌}
+use Prim.Native.Nat.{◌-◌, ◌≤◌}
+use lib.ListN.{length}
+use Rattle.model.specs.Bytes.{view, paste}
+use Rattle.model.specs.Map.{fresh_map}
 use Rattle.format.proofs.put_map.Given as goal
 
 abbrev pub invariant-loop-j : goal.invariant-loop-j

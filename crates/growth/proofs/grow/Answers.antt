@@ -7,7 +7,6 @@ use Rattle.model.specs.Grow.{zeroed_from, raised, raised_key}
 use Rattle.model.proofs.Laws.Entry.{height_most}
 use Rattle.growth.proofs.Laws.{fit_deep, zero_fit, zero_room, grown_same, key_same, grown_more, key_more}
 use native.Mathlib.Omega.{arith}
-use borrow.Author.Rules.{rules}
 use Rattle.growth.proofs.grow.Goals as goal
 
 pub returns-then-end-eof : goal.returns-then-end-eof
@@ -34,10 +33,13 @@ returns c =
     let v = view a.img.now in
     let z = c.zero_tail.ensures in
     let h = c.height_for.ensures.0 in
-    let more : a.eof < a.end = omega arith in record { img_after = c.raise.ensures.img_after
+    let more : a.eof < a.end = omega arith in record {
+      img_after = c.raise.ensures.img_after
           ∙ ap (λ f. raised map_place a.n f a.key (c.height_for.result - a.height)) z
           ∙ ap (λ g. raised map_place a.n (zeroed_from v a.height a.key a.eof) a.key (g - a.height)) h
-          ∙ grown_more a.n v a.height a.key a.eof a.end more; value = c.raise.ensures.value
+          ∙ grown_more a.n v a.height a.key a.eof a.end more;
+      value = c.raise.ensures.value
           ∙ ap (λ f. raised_key map_place a.n f a.key (c.height_for.result - a.height)) z
           ∙ ap (λ g. raised_key map_place a.n (zeroed_from v a.height a.key a.eof) a.key (g - a.height)) h
-          ∙ key_more a.n v a.height a.key a.eof a.end more }
+          ∙ key_more a.n v a.height a.key a.eof a.end more;
+    }

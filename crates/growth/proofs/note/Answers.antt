@@ -6,7 +6,6 @@ use Rattle.model.specs.Calls.{put_stamp, backed_up}
 use Rattle.growth.specs.Growth.{noted_as}
 use Rattle.growth.proofs.Laws.{map_fits}
 use native.Mathlib.Omega.{arith}
-use borrow.Author.Rules.{rules}
 use Rattle.growth.proofs.note.Goals as goal
 
 pub free_blocks-requires : goal.free_blocks-requires

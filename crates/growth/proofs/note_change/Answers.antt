@@ -3,7 +3,6 @@ use Prim.Native.Nat.{◌+◌}
 use mathlib.Core.Path.{ap, ◌∙◌}
 use Rattle.model.specs.Bytes.{view, put}
 use Rattle.model.specs.Calls.{put_stamp}
-use borrow.Author.Rules.{rules}
 use Rattle.growth.proofs.note_change.Goals as goal
 
 pub returns : goal.returns

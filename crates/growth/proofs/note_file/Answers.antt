@@ -2,7 +2,6 @@
 use Prim.Native.Nat.{◌+◌}
 use mathlib.Core.Path.{ap, ◌∙◌}
 use Rattle.model.specs.Bytes.{view, put, put_word, put_long}
-use borrow.Author.Rules.{rules}
 use Rattle.growth.proofs.note_file.Goals as goal
 
 pub returns : goal.returns

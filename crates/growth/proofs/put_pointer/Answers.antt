@@ -3,7 +3,6 @@ use Prim.Native.Nat.{◌+◌, ◌*◌, ◌/◌, ◌%◌}
 use mathlib.Core.Path.{ap, ◌∙◌}
 use Rattle.model.specs.Bytes.{put}
 use Rattle.model.specs.File.{put_pointer}
-use borrow.Author.Rules.{rules}
 use Rattle.growth.proofs.put_pointer.Goals as goal
 
 pub returns : goal.returns

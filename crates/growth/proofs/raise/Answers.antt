@@ -1,15 +1,9 @@
 -- `growth::raise` meets its contract: what is left to take gives the same file; the measure is the height left.
-use Prim.Native.Nat.{◌-◌, ◌*◌, ◌≤◌}
-use mathlib.Core.Path.{◌≡◌, refl, sym, ◌∙◌}
-use lib.ListN.{length}
+use Prim.Native.Nat.{◌≤◌}
+use mathlib.Core.Path.{refl, sym, ◌∙◌}
 use Rattle.model.specs.Bytes.{view}
-use Rattle.model.specs.Map.{room}
-use Rattle.model.specs.Directory.{map_place}
-use Rattle.model.specs.Grow.{raised, raised_key}
-use Rattle.model.proofs.Laws.Move.{Fit}
 use Rattle.growth.proofs.Laws.{raised_none, key_none, low_in, raise_on}
 use native.Mathlib.Omega.{arith}
-use borrow.Author.Rules.{rules}
 use Rattle.growth.proofs.raise.Goals as goal
 
 pub loop-tall-init : goal.loop-tall-init

@@ -1,15 +1,12 @@
 -- `growth::raise` meets its contract: what is left to take gives the same file; the measure is the height left.
 use Prim.Native.Nat.{◌-◌, ◌*◌, ◌≤◌}
-use mathlib.Core.Path.{◌≡◌, refl, sym, ◌∙◌}
+use mathlib.Core.Path.{◌≡◌}
 use lib.ListN.{length}
 use Rattle.model.specs.Bytes.{view}
 use Rattle.model.specs.Map.{room}
 use Rattle.model.specs.Directory.{map_place}
 use Rattle.model.specs.Grow.{raised, raised_key}
 use Rattle.model.proofs.Laws.Move.{Fit}
-use Rattle.growth.proofs.Laws.{raised_none, key_none, low_in, raise_on}
-use native.Mathlib.Omega.{arith}
-use borrow.Author.Rules.{rules}
 use Rattle.growth.proofs.raise.Given as goal
 
 abbrev pub invariant-loop-tall : goal.invariant-loop-tall

@@ -5,7 +5,6 @@ use Rattle.model.specs.Bytes.{view}
 use Rattle.model.specs.File.{put_pointer}
 use Rattle.growth.proofs.Laws.{map_fits, bit_fits, first_lowest}
 use native.Mathlib.Omega.{arith}
-use borrow.Author.Rules.{rules}
 use Rattle.growth.proofs.top.Goals as goal
 
 pub first_free-block-requires : goal.first_free-block-requires

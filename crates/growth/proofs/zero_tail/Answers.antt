@@ -2,7 +2,6 @@
 use mathlib.Core.Path.{sym, ◌∙◌}
 use Rattle.model.specs.Bytes.{view}
 use Rattle.growth.proofs.Laws.{tail_full, tail_hole, tail_there}
-use borrow.Author.Rules.{rules}
 use Rattle.growth.proofs.zero_tail.Goals as goal
 
 pub returns-then-ends_full : goal.returns-then-ends_full

@@ -1,6 +1,5 @@
 -- `info::entry_info` meets its contract: the kind as its number, all else as it stands in the entry.
 use mathlib.Core.Path.{ap}
-use borrow.Author.Rules.{rules}
 use Rattle.info.proofs.entry_info.Goals as goal
 
 pub returns : goal.returns

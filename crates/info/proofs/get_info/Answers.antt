@@ -1,7 +1,6 @@
 -- `info::get_info` meets its contract, by what the path leads to.
 use mathlib.Core.Path.{sym, ◌∙◌}
 use lib.ListN.{length}
-use borrow.Author.Rules.{rules}
 use Rattle.model.specs.Bytes.{view}
 use Rattle.info.proofs.TellLaws.{info_refused, info_volume, info_entry}
 use Rattle.info.proofs.get_info.Goals as goal

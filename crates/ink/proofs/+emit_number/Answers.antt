@@ -1,9 +1,7 @@
 -- `ink::emit_number` meets its contract. The places fall with each call.
 use Rattle.ink.proofs.InkLaws.{prints_none, prints_as, ◌then◌}
 use Rattle.ink.proofs.TextLaws.{number_none, number_digit, number_more}
-use borrow.Author.Rules.{rules}
 use native.Mathlib.Omega.{arith}
-use Prim.Native.Nat.{ℕ, ◌<◌}
 use Rattle.ink.proofs.+emit_number.Goals as goal
 
 pub returns-then-places-eq0 : goal.returns-then-places-eq0

@@ -1,7 +1,6 @@
 -- `ink::emit_byte` meets its contract. The byte is skipped, laid on the page, or past its end.
 use native.Mathlib.Omega.{arith}
 use Rattle.ink.proofs.InkLaws.{byte_skipped, byte_laid, byte_past}
-use borrow.Author.Rules.{rules}
 use Rattle.ink.proofs.emit_byte.Goals as goal
 
 pub returns-then-ink-gt0 : goal.returns-then-ink-gt0

@@ -1,6 +1,5 @@
 -- `ink::emit_decimal` meets its contract. A space, then the digits.
 use Rattle.ink.proofs.InkLaws.{◌then◌}
-use borrow.Author.Rules.{rules}
 use Rattle.ink.proofs.emit_decimal.Goals as goal
 
 pub returns : goal.returns

@@ -1,6 +1,5 @@
 -- `ink::emit_hex_byte` meets its contract. The high digit, then the low one.
 use Rattle.ink.proofs.InkLaws.{byte_as, ◌then◌}
-use borrow.Author.Rules.{rules}
 use Rattle.ink.proofs.emit_hex_byte.Goals as goal
 
 pub returns : goal.returns

@@ -1,14 +1,10 @@
 -- `ink::emit_run` meets its contract. The invariant says what is left to be emitted.
 use native.Mathlib.Omega.{arith}
-use Prim.Native.Nat.{◌+◌, ◌-◌, ◌≤◌}
-use mathlib.Core.Path.{◌≡◌, refl, ap}
-use lib.ListN.{length}
+use mathlib.Core.Path.{refl, ap}
 use Rattle.model.specs.Bytes.{view}
-use Rattle.model.specs.Catalog.{text}
 use Rattle.ink.specs.Ink.{sheet, emit}
 use Rattle.ink.proofs.InkLaws.{emit_rest, emit_done}
 use Rattle.ink.proofs.TextLaws.{text_at, text_next, text_end}
-use borrow.Author.Rules.{rules}
 use Rattle.ink.proofs.emit_run.Goals as goal
 
 pub loop-passed-init : goal.loop-passed-init

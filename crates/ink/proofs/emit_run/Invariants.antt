@@ -1,14 +1,10 @@
 -- `ink::emit_run` meets its contract. The invariant says what is left to be emitted.
-use native.Mathlib.Omega.{arith}
 use Prim.Native.Nat.{◌+◌, ◌-◌, ◌≤◌}
-use mathlib.Core.Path.{◌≡◌, refl, ap}
+use mathlib.Core.Path.{◌≡◌}
 use lib.ListN.{length}
 use Rattle.model.specs.Bytes.{view}
 use Rattle.model.specs.Catalog.{text}
 use Rattle.ink.specs.Ink.{sheet, emit}
-use Rattle.ink.proofs.InkLaws.{emit_rest, emit_done}
-use Rattle.ink.proofs.TextLaws.{text_at, text_next, text_end}
-use borrow.Author.Rules.{rules}
 use Rattle.ink.proofs.emit_run.Given as goal
 
 abbrev pub invariant-loop-passed : goal.invariant-loop-passed

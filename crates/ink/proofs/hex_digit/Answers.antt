@@ -1,7 +1,6 @@
 -- `ink::hex_digit` meets its contract. Digits below ten, letters from ten on.
 use native.Mathlib.Omega.{arith}
 use Rattle.ink.proofs.TextLaws.{hex_low, hex_high}
-use borrow.Author.Rules.{rules}
 use Rattle.ink.proofs.hex_digit.Goals as goal
 
 pub returns-then-x-lt10 : goal.returns-then-x-lt10

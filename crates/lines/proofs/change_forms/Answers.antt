@@ -2,7 +2,6 @@
 use mathlib.Core.Path.{refl, sym, ap, ◌∙◌}
 use native.Mathlib.Omega.{arith}
 use Rattle.lines.specs.Commands.{change_forms}
-use borrow.Author.Rules.{rules}
 use Rattle.lines.proofs.change_forms.Goals as goal
 
 pub returns-in-Call : goal.returns-in-Call

@@ -6,7 +6,6 @@ use lib.ListN.{length, drop}
 use Rattle.model.specs.Bytes.{view}
 use Rattle.lines.specs.Commands.{change_words, says, look_from}
 use Rattle.lines.proofs.WordLaws.{Past, past_none, past_more, past_here, past_all}
-use borrow.Author.Rules.{rules}
 use Rattle.lines.proofs.command_of.Goals as goal
 
 -- the first k words are not the line's

@@ -2,7 +2,6 @@
 use mathlib.Core.Path.{refl, sym, ap, ◌∙◌}
 use native.Mathlib.Omega.{arith}
 use Rattle.lines.specs.Commands.{forms_of}
-use borrow.Author.Rules.{rules}
 use Rattle.lines.proofs.forms_of.Goals as goal
 
 pub returns-in-Blocks : goal.returns-in-Blocks

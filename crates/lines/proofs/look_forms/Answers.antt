@@ -2,7 +2,6 @@
 use mathlib.Core.Path.{refl, sym, ap}
 use native.Mathlib.Omega.{arith}
 use Rattle.lines.specs.Commands.{look_forms}
-use borrow.Author.Rules.{rules}
 use Rattle.lines.proofs.look_forms.Goals as goal
 
 pub returns-in-Digest : goal.returns-in-Digest

@@ -7,7 +7,6 @@ use Rattle.model.specs.Bytes.{view}
 use Rattle.lines.specs.Commands.{look_words, says}
 use Rattle.lines.specs.declared.Command.TheVariants as command
 use Rattle.lines.proofs.WordLaws.{Past, past_none, past_more, past_here, past_all}
-use borrow.Author.Rules.{rules}
 use Rattle.lines.proofs.look_of.Goals as goal
 
 -- the first k words are not the line's

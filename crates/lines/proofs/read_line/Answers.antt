@@ -4,7 +4,6 @@ use native.Mathlib.Omega.{arith}
 use lib.ListN.{length, take, length-take}
 use Rattle.model.specs.Bytes.{view}
 use Rattle.lines.proofs.ReadLaws.{front_as, line_command, line_takes, line_fits}
-use borrow.Author.Rules.{rules}
 use Rattle.lines.proofs.read_line.Goals as goal
 
 pub slice_bounds-read_fields-end : goal.slice_bounds-read_fields-end

@@ -1,20 +1,17 @@
 -- `listing::list_block`, `list_directory` and `list_entry` meet their contracts: levels fall from an entry to its directory.
 -- The invariants say what is left to be emitted, and that the path is still the directory's.
-use mathlib.Core.Path.{◌≡◌, refl, sym, ap, ◌∙◌}
+use mathlib.Core.Path.{◌≡◌, refl, ap, ◌∙◌}
 use mathlib.Core.List.{[], ◌∷◌}
-use lib.ListN.{length}
 use Rattle.model.specs.Bytes.{view}
 use Rattle.model.specs.Directory.{place}
-use Rattle.model.specs.Catalog.{text}
-use Rattle.directory.specs.Search.{Each, slots_from, listed}
-use Rattle.directory.proofs.SearchLaws.{rest, rest_done, slots_more, slots_done, each_head, each_tail}
-use Rattle.ink.specs.Ink.{sheet, emit}
-use Rattle.listing.specs.Walked.{walked, block_count, Listed}
+use Rattle.directory.specs.Search.{slots_from}
+use Rattle.directory.proofs.SearchLaws.{rest_done, slots_more, slots_done, each_head, each_tail}
+use Rattle.listing.specs.Walked.{walked, Listed}
 use Rattle.ink.proofs.InkLaws.{prints_none, prints_as, emit_rest, emit_done, ◌then◌}
 use Rattle.ink.proofs.TextLaws.{text_start}
-use Rattle.listing.proofs.WalkLaws.{block_text, chain_text, empty_text, Pending, pending, pending_block, pending_slots, pending_next, slot_few, slot_inside, slot_quiet, slot_leaf, directory_level, directory_chained, directory_text}
+use Rattle.listing.proofs.WalkLaws.{block_text, chain_text, empty_text, pending, pending_block, pending_slots, pending_next, slot_few, slot_inside, slot_quiet, slot_leaf, directory_level, directory_chained, directory_text}
 use native.Mathlib.Omega.{arith}
-use Prim.Native.Nat.{ℕ, ◌+◌, ◌-◌, ◌*◌, ◌/◌, ◌≤◌, ◌<◌}
+use Prim.Native.Nat.{◌+◌, ◌-◌, ◌*◌, ◌/◌, ◌≤◌, ◌<◌}
 use Rattle.listing.proofs.+list_block_list_directory_list_entry.Goals as goal
 
 pub list_block-loop-slot-init : goal.list_block-loop-slot-init
@@ -181,6 +178,9 @@ list_entry-list_directory-requires t c =
     )
 
 pub list_entry-returns : goal.list_entry-returns
-list_entry-returns t c = record { prints = prints_as
-          (directory_text c.args.img.now c.args.levels c.args.slot _ c.requires.0 c.requires.3 c.address_of-at.ensures c.if-kind-ne-DIRECTORY.false _ _ c.get_word-key.ensures.value c.get_word-used.ensures.value (c.address_of-at.result + 39 - c.address_of-at.result) _ _ (omega arith) c.extend-below.ensures.reads)
-          (c.emit_line-listed.ensures then c.list_directory.ensures.prints); len_unchanged = text_start _ _ _ _ (omega (arith, c.extend-below.ensures.size)) c.list_directory.ensures.len_unchanged ∙ c.extend-below.ensures.kept }
+list_entry-returns t c = record {
+  prints = prints_as
+      (directory_text c.args.img.now c.args.levels c.args.slot _ c.requires.0 c.requires.3 c.address_of-at.ensures c.if-kind-ne-DIRECTORY.false _ _ c.get_word-key.ensures.value c.get_word-used.ensures.value (c.address_of-at.result + 39 - c.address_of-at.result) _ _ (omega arith) c.extend-below.ensures.reads)
+      (c.emit_line-listed.ensures then c.list_directory.ensures.prints);
+  len_unchanged = text_start _ _ _ _ (omega (arith, c.extend-below.ensures.size)) c.list_directory.ensures.len_unchanged ∙ c.extend-below.ensures.kept;
+}

@@ -1,20 +1,15 @@
 -- `listing::list_block`, `list_directory` and `list_entry` meet their contracts: levels fall from an entry to its directory.
 -- The invariants say what is left to be emitted, and that the path is still the directory's.
-use mathlib.Core.Path.{◌≡◌, refl, sym, ap, ◌∙◌}
-use mathlib.Core.List.{[], ◌∷◌}
+use mathlib.Core.Path.{◌≡◌}
 use lib.ListN.{length}
 use Rattle.model.specs.Bytes.{view}
-use Rattle.model.specs.Directory.{place}
 use Rattle.model.specs.Catalog.{text}
 use Rattle.directory.specs.Search.{Each, slots_from, listed}
-use Rattle.directory.proofs.SearchLaws.{rest, rest_done, slots_more, slots_done, each_head, each_tail}
+use Rattle.directory.proofs.SearchLaws.{rest}
 use Rattle.ink.specs.Ink.{sheet, emit}
 use Rattle.listing.specs.Walked.{walked, block_count, Listed}
-use Rattle.ink.proofs.InkLaws.{prints_none, prints_as, emit_rest, emit_done, ◌then◌}
-use Rattle.ink.proofs.TextLaws.{text_start}
-use Rattle.listing.proofs.WalkLaws.{block_text, chain_text, empty_text, Pending, pending, pending_block, pending_slots, pending_next, slot_few, slot_inside, slot_quiet, slot_leaf, directory_level, directory_chained, directory_text}
-use native.Mathlib.Omega.{arith}
-use Prim.Native.Nat.{ℕ, ◌+◌, ◌-◌, ◌*◌, ◌/◌, ◌≤◌, ◌<◌}
+use Rattle.listing.proofs.WalkLaws.{Pending}
+use Prim.Native.Nat.{◌+◌, ◌-◌, ◌*◌, ◌≤◌}
 use Rattle.listing.proofs.+list_block_list_directory_list_entry.Given as goal
 
 abbrev pub decreases-list_block : goal.decreases-list_block

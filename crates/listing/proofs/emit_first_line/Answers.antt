@@ -9,7 +9,6 @@ use Rattle.model.specs.Catalog.{space', decimal, first_line}
 use Rattle.claims.proofs.SoundFacts.{sound_facts}
 use Rattle.ink.proofs.InkLaws.{prints_as, ◌then◌}
 use Rattle.listing.proofs.WalkLaws.{map_inside}
-use borrow.Author.Rules.{rules}
 use Rattle.listing.proofs.emit_first_line.Goals as goal
 
 pub bounds-img-1028 : goal.bounds-img-1028

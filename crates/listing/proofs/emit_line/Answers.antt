@@ -4,7 +4,6 @@ use mathlib.Core.Path.{ap}
 use mathlib.Core.List.{◌∷◌}
 use Rattle.model.specs.Catalog.{space', decimal}
 use Rattle.ink.proofs.InkLaws.{byte_as, prints_as, same_size, ◌then◌}
-use borrow.Author.Rules.{rules}
 use Rattle.listing.proofs.emit_line.Goals as goal
 
 pub hex_digit-requires : goal.hex_digit-requires

@@ -1,7 +1,6 @@
 -- `listing::extend` meets its contract. The slash is put behind the path, and the name behind the slash.
 use mathlib.Core.Path.{refl}
 use Rattle.listing.proofs.TextLaws.{extended_by}
-use borrow.Author.Rules.{rules}
 use Rattle.listing.proofs.extend.Goals as goal
 
 pub returns : goal.returns

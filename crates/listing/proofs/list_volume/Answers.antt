@@ -3,8 +3,6 @@ use native.Mathlib.Omega.{arith}
 use Rattle.claims.proofs.SoundFacts.{sound_facts}
 use Rattle.ink.proofs.InkLaws.{prints_as, ◌then◌}
 use Rattle.listing.proofs.WalkLaws.{whole, volume_chained, volume_text}
-use borrow.Author.Rules.{rules}
-use Rattle.listing.proofs.list_volume.Reads as reads
 use Rattle.listing.proofs.list_volume.Goals as goal
 
 pub extend-len-requires : goal.extend-len-requires

@@ -1,7 +1,6 @@
 -- `listing::page_of_refusal` meets its contract. A page shows what the line leaves on it.
 use Rattle.model.specs.Catalog.{text, refused_line}
 use Rattle.ink.proofs.InkLaws.{shows, ◌then◌}
-use borrow.Author.Rules.{rules}
 use Rattle.listing.proofs.page_of_refusal.Goals as goal
 
 pub returns : goal.returns

@@ -1,7 +1,6 @@
 -- `listing::page_of_too_large` meets its contract. A page shows what the line leaves on it.
 use Rattle.model.specs.Catalog.{text, too_large_line}
 use Rattle.ink.proofs.InkLaws.{shows}
-use borrow.Author.Rules.{rules}
 use Rattle.listing.proofs.page_of_too_large.Goals as goal
 
 pub returns : goal.returns

@@ -1,6 +1,5 @@
 -- `listing::page_of_volume` meets its contract. A page shows what the whole listing leaves on it.
 use Rattle.ink.proofs.InkLaws.{shows}
-use borrow.Author.Rules.{rules}
 use Rattle.listing.proofs.page_of_volume.Goals as goal
 
 pub returns : goal.returns

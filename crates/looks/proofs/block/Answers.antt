@@ -1,9 +1,7 @@
 -- `looks::block` meets its contract.
 use Prim.Native.Nat.{◌+◌, ◌*◌}
 use mathlib.Core.Path.{refl}
-use native.Mathlib.Omega.{arith}
 use lib.ListN.{length}
-use borrow.Author.Rules.{rules}
 use Rattle.model.specs.Bytes.{view}
 use Rattle.ink.specs.Ink.{sheet, Prints}
 use Rattle.replies.specs.Lines.{bytes_line}

@@ -1,11 +1,9 @@
 -- `looks::blocks_read` meets its contract.
-use Prim.Native.Nat.{◌-◌, ◌/◌}
-use mathlib.Core.Path.{◌≡◌, refl, sym, ◌∙◌}
+use Prim.Native.Nat.{◌-◌}
+use mathlib.Core.Path.{◌≡◌}
 use lib.ListN.{length}
-use borrow.Author.Rules.{rules}
 use Rattle.model.specs.Bytes.{view}
 use Rattle.looks.specs.Looks.{read_until, blocks_read}
-use Rattle.looks.proofs.UntilLaws.{until_over, until_found, until_past, until_next}
 use Rattle.looks.proofs.blocks_read.Given as goal
 
 abbrev pub invariant-loop-read : goal.invariant-loop-read

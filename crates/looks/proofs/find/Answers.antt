@@ -1,7 +1,6 @@
 -- `looks::find` meets its contract.
 use mathlib.Core.Path.{sym, ap, ◌∙◌}
 use lib.ListN.{length}
-use borrow.Author.Rules.{rules}
 use Rattle.model.specs.Bytes.{view}
 use Rattle.ink.proofs.InkLaws.{prints_as}
 use Rattle.looks.specs.Looks.{found_line}

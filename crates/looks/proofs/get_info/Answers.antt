@@ -1,5 +1,4 @@
 -- `looks::get_info` meets its contract.
-use borrow.Author.Rules.{rules}
 use Rattle.looks.specs.Looks.{info_line}
 use Rattle.looks.proofs.get_info.Goals as goal
 

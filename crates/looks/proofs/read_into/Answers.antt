@@ -1,7 +1,6 @@
 -- `looks::read_into` meets its contract.
 use native.Mathlib.Omega.{arith}
 use lib.ListN.{length}
-use borrow.Author.Rules.{rules}
 use Rattle.model.specs.Bytes.{view}
 use Rattle.looks.proofs.IntoLaws.{read_filled, into_reads}
 use Rattle.looks.proofs.read_into.Goals as goal

@@ -2,7 +2,6 @@
 use mathlib.Core.Path.{refl, ap}
 use native.Mathlib.Omega.{arith}
 use lib.ListN.{length}
-use borrow.Author.Rules.{rules}
 use Rattle.model.specs.Bytes.{view}
 use Rattle.ink.specs.Ink.{sheet, Prints}
 use Rattle.opening.specs.Opened.{opened_by}

@@ -1,7 +1,6 @@
 -- `looks::say_found` meets its contract.
 use mathlib.Core.List.{[], ◌∷◌}
 use mathlib.Core.Path.{ap}
-use borrow.Author.Rules.{rules}
 use Rattle.ink.proofs.InkLaws.{prints_as}
 use Rattle.replies.specs.Lines.{ok_line}
 use Rattle.looks.specs.Looks.{place_forms}

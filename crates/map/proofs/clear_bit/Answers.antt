@@ -1,7 +1,6 @@
 -- `map::clear_bit` meets its contract. A byte that has the bit is at least its weight.
 use mathlib.Core.Path.{sym, ◌∙◌}
 use Rattle.map.proofs.Laws.{clear_has, clear_lacks, weighs}
-use borrow.Author.Rules.{rules}
 use Rattle.map.proofs.clear_bit.Goals as goal
 
 pub overflow_sub-result : goal.overflow_sub-result

@@ -1,11 +1,9 @@
 -- `map::first_free` meets its contract. The loop's invariant: no block from the hint on is free before this one. The measure is the blocks left.
-use Rattle.map.proofs.Laws.{not_free, pass_on, found_first, none_first, Passed}
+use Rattle.map.proofs.Laws.{not_free, pass_on, found_first, none_first}
 use mathlib.Core.Path.{sym, ◌∙◌}
-use Prim.Native.Nat.{◌-◌, ◌≤◌}
 use native.Mathlib.Omega.{arith}
 use Rattle.model.specs.Bytes.{view}
 use Rattle.model.proofs.BitLaws.{map_at_in}
-use borrow.Author.Rules.{rules}
 use Rattle.map.proofs.first_free.Goals as goal
 
 pub loop-block-init : goal.loop-block-init

@@ -1,7 +1,5 @@
 -- `map::free_blocks` meets its contract. The loop's invariant: the count is the room of the blocks passed. The measure is the blocks left.
 use mathlib.Core.Path.{◌≡◌, sym, ap, ◌∙◌}
-use mathlib.Core.Logic.{⊎_elim}
-use Prim.Native.Nat.{◌-◌, ◌≤◌}
 use native.Mathlib.Omega.{arith}
 use borrow.Author.Tests.{eqb-true}
 use Rattle.model.specs.Bytes.{view}

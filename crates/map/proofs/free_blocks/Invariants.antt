@@ -1,14 +1,8 @@
 -- `map::free_blocks` meets its contract. The loop's invariant: the count is the room of the blocks passed. The measure is the blocks left.
-use mathlib.Core.Path.{◌≡◌, sym, ap, ◌∙◌}
-use mathlib.Core.Logic.{⊎_elim}
+use mathlib.Core.Path.{◌≡◌}
 use Prim.Native.Nat.{◌-◌, ◌≤◌}
-use native.Mathlib.Omega.{arith}
-use borrow.Author.Tests.{eqb-true}
 use Rattle.model.specs.Bytes.{view}
-use Rattle.model.specs.Map.{room, free, map_blocks}
-use Rattle.model.proofs.BitLaws.{map_at_in}
-use Rattle.map.proofs.Laws.{room_next, not_free}
-use borrow.Author.Rules.{rules}
+use Rattle.model.specs.Map.{room}
 use Rattle.map.proofs.free_blocks.Given as goal
 
 abbrev pub invariant-loop-b : goal.invariant-loop-b

@@ -1,11 +1,10 @@
 -- `map::free_in_bytes` meets its contract. The loop's invariant: the count is the room of the bytes passed. The measure is the bytes left.
 use mathlib.Core.Path.{◌≡◌, refl, ap, ◌∙◌}
-use Prim.Native.Nat.{ℕ, ◌+◌, ◌-◌, ◌*◌, ◌≤◌}
+use Prim.Native.Nat.{ℕ, ◌+◌, ◌*◌}
 use native.Mathlib.Omega.{arith}
 use Rattle.model.specs.Bytes.{view}
 use Rattle.model.specs.Map.{room}
 use Rattle.model.proofs.BitLaws.{room_byte}
-use borrow.Author.Rules.{rules}
 use Rattle.map.proofs.free_in_bytes.Goals as goal
 
 pub loop-j-init : goal.loop-j-init

@@ -1,11 +1,8 @@
 -- `map::free_in_bytes` meets its contract. The loop's invariant: the count is the room of the bytes passed. The measure is the bytes left.
-use mathlib.Core.Path.{◌≡◌, refl, ap, ◌∙◌}
-use Prim.Native.Nat.{ℕ, ◌+◌, ◌-◌, ◌*◌, ◌≤◌}
-use native.Mathlib.Omega.{arith}
+use mathlib.Core.Path.{◌≡◌}
+use Prim.Native.Nat.{◌-◌, ◌*◌, ◌≤◌}
 use Rattle.model.specs.Bytes.{view}
 use Rattle.model.specs.Map.{room}
-use Rattle.model.proofs.BitLaws.{room_byte}
-use borrow.Author.Rules.{rules}
 use Rattle.map.proofs.free_in_bytes.Given as goal
 
 abbrev pub invariant-loop-j : goal.invariant-loop-j

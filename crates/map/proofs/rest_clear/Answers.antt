@@ -1,5 +1,4 @@
 -- `map::rest_clear` meets its contract. The two tests are the two parts of the definition.
-use borrow.Author.Tests.{not-true, not-false}
 use Rattle.map.proofs.Laws.{rest_no, rest_yes}
 use mathlib.Core.Path.{sym, ◌∙◌}
 use Rattle.model.specs.Bytes.{view}

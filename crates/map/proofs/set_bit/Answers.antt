@@ -3,7 +3,6 @@ use mathlib.Core.Path.{sym, ◌∙◌}
 use native.Mathlib.Omega.{arith}
 use Rattle.map.proofs.Laws.{set_has, set_lacks}
 use Rattle.model.proofs.BitLaws.{set_byte}
-use borrow.Author.Rules.{rules}
 use Rattle.map.proofs.set_bit.Goals as goal
 
 pub returns-then-has_bit : goal.returns-then-has_bit

@@ -6,7 +6,6 @@ use Rattle.model.specs.Map.{map_at}
 use Rattle.claims.proofs.ClaimLaws.{block_outside, block_seen}
 use Rattle.marks.specs.Marks.{marks}
 use Rattle.marks.proofs.Laws.{marks_free, marked, block_marked}
-use borrow.Author.Rules.{rules}
 use Rattle.marks.proofs.claim_block.Goals as goal
 
 pub returns-then-b-n : goal.returns-then-b-n

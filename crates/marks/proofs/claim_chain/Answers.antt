@@ -1,10 +1,7 @@
 -- `marks::claim_chain` meets its contract. The loop's invariant: the claims of the chain that is left, after what is marked, are those of the whole. The measure is the blocks left.
-use mathlib.Core.Path.{◌≡◌, refl, ◌∙◌}
+use mathlib.Core.Path.{refl, ◌∙◌}
 use native.Mathlib.Omega.{arith}
-use lib.ListN.{length}
-use borrow.Author.Tests.{not-true, not-false}
 use Rattle.model.specs.Bytes.{view}
-use Rattle.claims.specs.Claims.{claim, chain_claims}
 use Rattle.marks.specs.Marks.{marks}
 use Rattle.marks.proofs.Laws.{on_volume, chain_refused, chain_broken, chain_on, chain_done}
 use Rattle.marks.proofs.claim_chain.Goals as goal

@@ -5,13 +5,11 @@ use Prim.Native.Nat.{◌+◌, ◌*◌}
 use mathlib.Core.List.{List}
 use native.Mathlib.Omega.{arith}
 use lib.ListN.{length}
-use borrow.Author.Tests.{not-true, not-false}
 use Rattle.model.specs.Bytes.{view}
 use Rattle.model.specs.File.{nodes}
 use Rattle.claims.specs.Claims.{Claim, claim, tree_claims}
 use Rattle.marks.specs.Marks.{marks}
 use Rattle.marks.proofs.Laws.{when_taken, when_refused, hole_claims, hole_nodes, data_below, held_nodes, leaf_count}
-use borrow.Author.Rules.{rules}
 use Rattle.marks.proofs.claim_data.Goals as goal
 
 pub returns-then-p-eq0 : goal.returns-then-p-eq0

@@ -1,14 +1,11 @@
 -- `marks::claim_index` meets its contract. The loop's invariant: what the pointers from i on lead to is left to claim and to count. The measure is the pointers left.
-use mathlib.Core.Path.{◌≡◌, sym, ap, ◌∙◌}
+use mathlib.Core.Path.{sym, ap, ◌∙◌}
 use mathlib.Core.Bool.{false≢true}
-use Prim.Native.Nat.{◌+◌, ◌-◌, ◌*◌, ◌≤◌}
+use Prim.Native.Nat.{◌*◌}
 use native.Mathlib.Omega.{arith}
-use lib.ListN.{length}
-use borrow.Author.Tests.{not-true, not-false}
 use Rattle.model.specs.Bytes.{view}
 use Rattle.marks.specs.Marks.{marks, took_all, took_count}
-use Rattle.marks.proofs.Laws.{node_on_volume, tree_refused, tree_on, first_index, Below, below_start, below_on, below_refused, below_done}
-use borrow.Author.Rules.{rules}
+use Rattle.marks.proofs.Laws.{node_on_volume, tree_refused, tree_on, first_index, below_start, below_on, below_refused, below_done}
 use Rattle.marks.proofs.claim_index.Goals as goal
 
 pub returns-then-not-claim_node : goal.returns-then-not-claim_node
@@ -40,8 +37,11 @@ returns-in_default c =
     let l = c.loop-i in
     let d = c.claim_data in
     let s = marks l.seen in
-    let s' = marks d.new.seen in record { seen_after = below_refused a.n v a.end 0 a.q a.key (marks k.new.seen) s l.i l.count l.invariant.3 s' (took_all d.result) c.loop-i-test.true d.ensures.seen_after (ap took_all c.in_default.is)
-          ∙ tree_on a.n v a.end 0 a.q a.key (a.q * 256) (first_index a.q) (marks a.seen.now) (marks k.new.seen) k.result k.ensures c.if-not-claim_node.false; result_value = ((λ z. absurd (false≢true z)), omega arith) }
+    let s' = marks d.new.seen in record {
+      seen_after = below_refused a.n v a.end 0 a.q a.key (marks k.new.seen) s l.i l.count l.invariant.3 s' (took_all d.result) c.loop-i-test.true d.ensures.seen_after (ap took_all c.in_default.is)
+          ∙ tree_on a.n v a.end 0 a.q a.key (a.q * 256) (first_index a.q) (marks a.seen.now) (marks k.new.seen) k.result k.ensures c.if-not-claim_node.false;
+      result_value = ((λ z. absurd (false≢true z)), omega arith);
+    }
 
 pub overflow_add-count : goal.overflow_add-count
 overflow_add-count c = omega (arith, ap took_count c.in-Count.is, c.claim_data.ensures.result_value.1)

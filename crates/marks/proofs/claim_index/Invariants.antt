@@ -1,14 +1,10 @@
 -- `marks::claim_index` meets its contract. The loop's invariant: what the pointers from i on lead to is left to claim and to count. The measure is the pointers left.
-use mathlib.Core.Path.{◌≡◌, sym, ap, ◌∙◌}
-use mathlib.Core.Bool.{false≢true}
-use Prim.Native.Nat.{◌+◌, ◌-◌, ◌*◌, ◌≤◌}
-use native.Mathlib.Omega.{arith}
+use mathlib.Core.Path.{◌≡◌}
+use Prim.Native.Nat.{◌+◌, ◌-◌, ◌≤◌}
 use lib.ListN.{length}
-use borrow.Author.Tests.{not-true, not-false}
 use Rattle.model.specs.Bytes.{view}
-use Rattle.marks.specs.Marks.{marks, took_all, took_count}
-use Rattle.marks.proofs.Laws.{node_on_volume, tree_refused, tree_on, first_index, Below, below_start, below_on, below_refused, below_done}
-use borrow.Author.Rules.{rules}
+use Rattle.marks.specs.Marks.{marks}
+use Rattle.marks.proofs.Laws.{Below}
 use Rattle.marks.proofs.claim_index.Given as goal
 
 abbrev pub invariant-loop-i : goal.invariant-loop-i

@@ -8,7 +8,6 @@ use Rattle.model.specs.File.{nodes}
 use Rattle.claims.specs.Claims.{Claim, claim, tree_claims}
 use Rattle.marks.specs.Marks.{marks}
 use Rattle.marks.proofs.Laws.{hole_claims, hole_nodes, index_below, index_nodes}
-use borrow.Author.Rules.{rules}
 use Rattle.marks.proofs.claim_limb.Goals as goal
 
 pub returns-then-p-eq0 : goal.returns-then-p-eq0

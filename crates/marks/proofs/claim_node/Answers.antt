@@ -5,7 +5,6 @@ use borrow.Author.Tests.{lt-ltb, le-ltb}
 use Rattle.claims.specs.Claims.{block}
 use Rattle.claims.proofs.ClaimLaws.{must_on, must_off}
 use Rattle.marks.specs.Marks.{marks}
-use borrow.Author.Rules.{rules}
 use Rattle.marks.proofs.claim_node.Goals as goal
 
 pub returns-then-first-end : goal.returns-then-first-end

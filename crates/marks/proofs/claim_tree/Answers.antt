@@ -5,13 +5,11 @@ use mathlib.Core.List.{List}
 use Prim.Native.Nat.{ℕ}
 use native.Mathlib.Omega.{arith}
 use lib.ListN.{length}
-use borrow.Author.Tests.{not-true, not-false}
 use Rattle.model.specs.Bytes.{view}
 use Rattle.model.specs.File.{nodes}
 use Rattle.claims.specs.Claims.{Claim, claim, tree_claims}
 use Rattle.marks.specs.Marks.{marks}
 use Rattle.marks.proofs.Laws.{when_taken, when_refused, leaf_claims, leaf_count}
-use borrow.Author.Rules.{rules}
 use Rattle.marks.proofs.claim_tree.Goals as goal
 
 pub returns-then-height-eq2 : goal.returns-then-height-eq2

@@ -1,7 +1,5 @@
 -- `marks::map_right` meets its contract. The loop's invariant: the map is right below b. The measure is the blocks left.
 use mathlib.Core.Path.{◌≡◌, refl, sym, ap, ◌∙◌}
-use mathlib.Core.Bool.{true}
-use Prim.Native.Nat.{◌-◌, ◌≤◌}
 use native.Mathlib.Omega.{arith}
 use Rattle.model.specs.Bytes.{view}
 use Rattle.model.specs.Map.{map_at}

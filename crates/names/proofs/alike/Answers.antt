@@ -1,7 +1,6 @@
 -- `names::alike` meets its contract: the sizes, then the bytes.
 use mathlib.Core.Path.{ap, ◌∙◌}
 use borrow.Author.Tests.{eq-eqb, ne_eqb}
-use borrow.Author.Rules.{rules}
 use Rattle.model.specs.Bytes.{view, equal_bytes, ◌and◌}
 use Rattle.names.specs.Steps.{alike_names}
 use Rattle.names.proofs.alike.Goals as goal

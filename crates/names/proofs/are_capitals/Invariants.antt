@@ -1,11 +1,8 @@
 -- `names::are_capitals` meets its contract: the loop's invariant: what is still to be compared decides, and the measure is what is left.
-use native.Mathlib.Omega.{arith}
-use mathlib.Core.Path.{◌≡◌, sym, ◌∙◌}
+use mathlib.Core.Path.{◌≡◌}
 use Prim.Native.Nat.{◌≤◌, ◌-◌, ◌+◌}
-use borrow.Author.Rules.{rules}
 use Rattle.model.specs.Bytes.{view, equal_bytes}
 use Rattle.model.specs.Names.{capitals}
-use Rattle.names.proofs.Laws.{equal_start, equal_more, equal_not, equal_all}
 use Rattle.names.proofs.are_capitals.Given as goal
 
 abbrev pub invariant-loop-i : goal.invariant-loop-i

@@ -1,11 +1,8 @@
 -- `names::are_name_bytes` meets its contract: the loop's invariant: what is still to be tested decides, and the measure is what is left.
-use native.Mathlib.Omega.{arith}
-use mathlib.Core.Path.{◌≡◌, refl, sym, ◌∙◌}
-use Prim.Native.Nat.{suc, ◌≤◌, ◌-◌, ◌+◌}
-use borrow.Author.Rules.{rules}
+use mathlib.Core.Path.{◌≡◌}
+use Prim.Native.Nat.{◌≤◌, ◌-◌}
 use Rattle.model.specs.Bytes.{view}
 use Rattle.model.specs.Names.{name_bytes}
-use Rattle.names.proofs.Laws.{bytes_more, bytes_not, bytes_none}
 use Rattle.names.proofs.are_name_bytes.Given as goal
 
 abbrev pub invariant-loop-i : goal.invariant-loop-i

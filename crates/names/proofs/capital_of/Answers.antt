@@ -1,7 +1,6 @@
 -- `names::capital_of` meets its contract: a byte in the range of small letters is 32 less, and any other stays.
 use native.Mathlib.Omega.{arith}
 use mathlib.Core.Path.{sym}
-use borrow.Author.Rules.{rules}
 use Rattle.names.proofs.Laws.{within_in, within_below, within_above, capital_small, capital_other}
 use Rattle.names.proofs.capital_of.Goals as goal
 

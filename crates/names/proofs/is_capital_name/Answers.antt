@@ -4,7 +4,6 @@ use native.Mathlib.Omega.{arith}
 use mathlib.Core.Path.{◌≡◌, sym, ap, ◌∙◌}
 use Prim.Native.Nat.{◌+◌, ◌-◌, ◌%◌}
 use lib.ListN.{get_or}
-use borrow.Author.Rules.{rules}
 use Rattle.model.specs.Bytes.{view, equal_bytes, ◌and◌}
 use Rattle.model.specs.Names.{capital_name, proper_name, capitals}
 use Rattle.names.proofs.is_capital_name.Goals as goal

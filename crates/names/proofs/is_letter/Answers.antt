@@ -1,7 +1,6 @@
 -- `names::is_letter` meets its contract: the capital is in the range of the letters, or below or above it.
 use native.Mathlib.Omega.{arith}
 use mathlib.Core.Path.{sym}
-use borrow.Author.Rules.{rules}
 use Rattle.model.specs.Names.{letter}
 use Rattle.names.proofs.Laws.{within_in, within_below, within_above}
 use Rattle.names.proofs.is_letter.Goals as goal

@@ -2,7 +2,6 @@
 use native.Mathlib.Omega.{arith}
 use mathlib.Core.Path.{sym, ◌∙◌}
 use borrow.Author.Tests.{eq-eqb, ne_eqb}
-use borrow.Author.Rules.{rules}
 use Rattle.model.specs.Bytes.{◌or◌}
 use Rattle.model.specs.Names.{name_byte}
 use Rattle.names.proofs.Laws.{within_in, within_below, within_above}

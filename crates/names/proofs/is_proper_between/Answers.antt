@@ -2,7 +2,6 @@
 use native.Mathlib.Omega.{arith}
 use mathlib.Core.Path.{sym, ◌∙◌}
 use Prim.Native.Nat.{◌-◌}
-use borrow.Author.Rules.{rules}
 use Rattle.model.specs.Bytes.{◌and◌}
 use Rattle.model.specs.Names.{proper_name}
 use Rattle.names.proofs.Laws.{within_in, within_below, within_above}

@@ -1,12 +1,8 @@
 -- `names::is_proper_path` meets its contract: the loop's invariant: the parts that are left decide, and each step makes them fewer.
-use mathlib.Core.Path.{◌≡◌, sym, ap, ◌∙◌}
-use native.Mathlib.Omega.{arith}
+use mathlib.Core.Path.{◌≡◌}
 use Prim.Native.Nat.{◌≤◌, ◌-◌}
 use lib.ListN.{length}
-use borrow.Author.Rules.{rules}
-use Rattle.names.proofs.CursorLaws.{Stepped, stepped_bounds, stepped_proper, left_bad, step_found, step_ends, step_fails, left_start, left_done}
-use Rattle.names.proofs.Laws.{no_parts, within_in, within_below, within_above}
-use Rattle.model.specs.Bytes.{view, ◌and◌}
+use Rattle.model.specs.Bytes.{view}
 use Rattle.model.specs.Names.{proper_parts, proper_path}
 use Rattle.names.specs.Steps.{parts_left}
 use Rattle.names.proofs.is_proper_path.Given as goal

@@ -1,12 +1,9 @@
 -- `names::last_start` meets its contract: the loop's invariant: the last name begins where it does among the first bytes, and the measure is their number.
-use native.Mathlib.Omega.{arith}
-use mathlib.Core.Path.{◌≡◌, refl, sym, ◌∙◌}
-use Prim.Native.Nat.{suc, ◌≤◌, ◌-◌}
+use mathlib.Core.Path.{◌≡◌}
+use Prim.Native.Nat.{◌≤◌}
 use lib.ListN.{length}
-use borrow.Author.Rules.{rules}
 use Rattle.model.specs.Bytes.{view}
 use Rattle.names.specs.Steps.{last_start}
-use Rattle.names.proofs.Laws.{last_here, last_more, last_none}
 use Rattle.names.proofs.last_start.Given as goal
 
 abbrev pub invariant-loop-start : goal.invariant-loop-start

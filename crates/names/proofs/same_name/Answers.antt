@@ -1,7 +1,6 @@
 -- `names::same_name` meets its contract: the sizes, then the bytes.
 use mathlib.Core.Path.{sym, ◌∙◌}
 use borrow.Author.Tests.{eq-eqb, ne_eqb}
-use borrow.Author.Rules.{rules}
 use Rattle.model.specs.Bytes.{◌and◌}
 use Rattle.model.specs.Names.{same_name}
 use Rattle.names.proofs.same_name.Goals as goal

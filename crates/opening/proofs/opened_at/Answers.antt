@@ -1,7 +1,6 @@
 -- `opening::opened_at` meets its contract: each answer of the lookup is one case of the target.
 use mathlib.Core.Path.{sym, ap, ◌∙◌}
 use lib.ListN.{length}
-use borrow.Author.Rules.{rules}
 use Rattle.model.specs.Bytes.{view}
 use Rattle.model.specs.Calls.{target}
 use Rattle.opening.proofs.SaneLaws.{sane}

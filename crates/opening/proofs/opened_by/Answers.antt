@@ -1,7 +1,6 @@
 -- `opening::opened_by` meets its contract: the image as a volume, then the path, then what it leads to.
 use mathlib.Core.Path.{sym, ◌∙◌}
 use lib.ListN.{length}
-use borrow.Author.Rules.{rules}
 use Rattle.model.specs.Bytes.{view}
 use Rattle.opening.proofs.VolumeLaws.{volume_sound}
 use Rattle.opening.proofs.CodeLaws.{opened_refused, opened_bad, opened_good}

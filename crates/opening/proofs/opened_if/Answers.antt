@@ -1,12 +1,10 @@
 -- `opening::opened_if` meets its contract. The image as a volume, then the path, then the arguments, then what the path leads to.
 use mathlib.Core.Path.{refl, sym, ◌∙◌}
-use borrow.Author.Tests.{not-true, not-false}
 use lib.ListN.{length}
 use Rattle.model.specs.Bytes.{view}
 use mathlib.Core.Bool.{true, false}
 use Rattle.opening.proofs.VolumeLaws.{volume_sound}
 use Rattle.opening.proofs.IfLaws.{if_refused, if_on}
-use borrow.Author.Rules.{rules}
 use Rattle.opening.proofs.opened_if.Goals as goal
 
 pub returns-then-not-is_proper_path : goal.returns-then-not-is_proper_path

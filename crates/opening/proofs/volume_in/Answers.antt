@@ -2,8 +2,6 @@
 use mathlib.Core.Path.{sym, ◌∙◌}
 use lib.ListN.{length}
 use native.Mathlib.Omega.{arith}
-use borrow.Author.Tests.{not-true, not-false}
-use borrow.Author.Rules.{rules}
 use Rattle.model.specs.Bytes.{view}
 use Rattle.opening.proofs.CodeLaws.{volume_unfit, volume_other, whole, volume_bad, volume_good}
 use Rattle.opening.proofs.volume_in.Goals as goal

@@ -1,19 +1,12 @@
 -- `pages::catalog_page` meets its contract.
 use Prim.Native.Nat.{◌≤◌, ◌<◌}
-use mathlib.Core.Path.{◌≡◌, sym, ◌∙◌}
+use mathlib.Core.Path.{sym, ◌∙◌}
 use lib.ListN.{length}
 use native.Mathlib.Omega.{arith}
 use Rattle.model.specs.Bytes.{view}
 use Rattle.model.specs.Catalog.{catalog_most}
 use Rattle.opening.proofs.VolumeLaws.{volume_sound}
 use Rattle.pages.proofs.CatalogLaws.{too_large, refused_line_law, listed}
-use borrow.Author.Rules.{rules}
-use Rattle.pages.proofs.catalog_page.Reads as reads
-use Rattle.opening.proofs.volume_in.Reads as volume-in-reads
-use Rattle.listing.proofs.page_of_refusal.Reads as page-of-refusal-reads
-use Rattle.listing.proofs.page_of_too_large.Reads as page-of-too-large-reads
-use Rattle.listing.proofs.page_of_volume.Reads as page-of-volume-reads
-use Rattle.model.proofs.refusal_number.Reads as refusal-number-reads
 use Rattle.pages.proofs.catalog_page.Goals as goal
 
 pub returns-then-img-gt-MOST : goal.returns-then-img-gt-MOST

@@ -5,7 +5,6 @@ use Rattle.lines.specs.Commands.{held}
 use Rattle.changes.specs.Changes.{changed}
 use Rattle.player.specs.Played.{obeyed}
 use Rattle.player.proofs.PlayedLaws.{on_image_law, changed_back}
-use borrow.Author.Rules.{rules}
 use Rattle.player.proofs.change.Goals as goal
 
 pub run-said-requires : goal.run-said-requires

@@ -1,6 +1,5 @@
 -- `player::is_silent` meets its contract: each return is a case of the definition.
 use Rattle.player.proofs.PlayedLaws.{silent_empty, silent_long, silent_byte}
-use borrow.Author.Rules.{rules}
 use Rattle.player.proofs.is_silent.Goals as goal
 
 pub returns-then-line-eq0 : goal.returns-then-line-eq0

@@ -6,7 +6,6 @@ use Rattle.lines.specs.Commands.{held}
 use Rattle.ink.proofs.InkLaws.{prints_none}
 use mathlib.Core.Path.{refl}
 use native.Mathlib.Omega.{arith}
-use borrow.Author.Rules.{rules}
 use Rattle.player.proofs.obey.Goals as goal
 
 pub overflow_mul-values : goal.overflow_mul-values

@@ -1,6 +1,5 @@
 -- `player::play` meets its contract: a script that is too large, and one that is played.
 use Rattle.player.proofs.PlayedLaws.{staged_large, staged_played, holds}
-use borrow.Author.Rules.{rules}
 use Rattle.player.proofs.play.Goals as goal
 
 pub returns-then-text-ge-SCRIPT : goal.returns-then-text-ge-SCRIPT

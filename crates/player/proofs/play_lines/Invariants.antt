@@ -1,12 +1,10 @@
 -- `player::play_lines` meets its contract. The loop's invariant: the lines that are left, played on the stage of now, are the whole script played.
 --
-use Rattle.player.proofs.PlayedLaws.{rest, rest_none, rest_all, turn_last, turn_again, holds}
+use Rattle.player.proofs.PlayedLaws.{rest}
 use Rattle.player.specs.Played.{rooms, stage, played_all}
 use Rattle.model.specs.Bytes.{view}
 use lib.ListN.{length}
-use borrow.Author.Rules.{rules}
-use native.Mathlib.Omega.{arith}
-use mathlib.Core.Path.{◌≡◌, refl, sym, ap, ◌∙◌}
+use mathlib.Core.Path.{◌≡◌}
 use Prim.Native.Nat.{◌-◌, ◌≤◌}
 use Rattle.player.proofs.play_lines.Given as goal
 

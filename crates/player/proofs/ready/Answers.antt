@@ -3,7 +3,6 @@ use Prim.Native.Nat.{ℕ}
 use Rattle.player.proofs.PlayedLaws.{ready_same, ready_empty}
 use Rattle.ink.specs.declared.Ink.{Ink}
 use mathlib.Core.Path.{ap}
-use borrow.Author.Rules.{rules}
 use Rattle.player.proofs.ready.Goals as goal
 
 -- a page in use up to a place

@@ -2,7 +2,6 @@
 use Rattle.ink.proofs.InkLaws.{prints_none}
 use mathlib.Core.Path.{sym}
 use borrow.Author.Tests.{le-leb, lt-leb}
-use borrow.Author.Rules.{rules}
 use Rattle.player.proofs.renew.Goals as goal
 
 pub returns-then-image-wanted : goal.returns-then-image-wanted

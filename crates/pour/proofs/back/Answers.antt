@@ -2,7 +2,6 @@
 use mathlib.Core.Path.{◌≡◌}
 use Rattle.pour.proofs.Laws.{backed_seedling}
 use native.Mathlib.Omega.{arith}
-use borrow.Author.Rules.{rules}
 use Rattle.pour.proofs.back.Goals as goal
 
 pub returns-then-height-eq0 : goal.returns-then-height-eq0

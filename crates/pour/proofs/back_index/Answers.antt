@@ -4,7 +4,6 @@ use Rattle.model.specs.File.{above}
 use Rattle.model.proofs.Laws.Move.{fit_key}
 use Rattle.pour.proofs.Laws.{gap_found, backed_index}
 use native.Mathlib.Omega.{arith}
-use borrow.Author.Rules.{rules}
 use Rattle.pour.proofs.back_index.Goals as goal
 
 pub reach-requires : goal.reach-requires

@@ -4,7 +4,6 @@ use Prim.Native.Nat.{◌^◌, ◌<◌}
 use Rattle.model.specs.Bytes.{view}
 use Rattle.pour.proofs.CountLaws.{block_far, block_hole, block_there}
 use native.Mathlib.Omega.{arith}
-use borrow.Author.Rules.{rules}
 use Rattle.pour.proofs.lacks_block.Goals as goal
 
 pub returns-then-breadth-p : goal.returns-then-breadth-p

@@ -3,9 +3,6 @@ use Prim.Native.Nat.{◌+◌, ◌-◌, ◌≤◌}
 use mathlib.Core.Path.{◌≡◌}
 use Rattle.model.specs.Bytes.{view, sum, run}
 use Rattle.model.specs.Grow.{lacks_block}
-use Rattle.pour.proofs.CountLaws.{sum_step, sum_end}
-use native.Mathlib.Omega.{arith}
-use borrow.Author.Rules.{rules}
 use Rattle.pour.proofs.lacks_blocks.Given as goal
 
 abbrev pub invariant-loop-q : goal.invariant-loop-q

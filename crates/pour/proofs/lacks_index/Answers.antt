@@ -3,7 +3,6 @@ use mathlib.Core.Path.{sym, ◌∙◌}
 use Rattle.model.specs.Bytes.{view}
 use Rattle.pour.proofs.CountLaws.{index_hole, index_there, index_first, index_other}
 use native.Mathlib.Omega.{arith}
-use borrow.Author.Rules.{rules}
 use Rattle.pour.proofs.lacks_index.Goals as goal
 
 pub returns-then-get_pointer-eq0 : goal.returns-then-get_pointer-eq0

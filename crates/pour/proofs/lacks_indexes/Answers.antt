@@ -1,11 +1,8 @@
 -- `pour::lacks_indexes` meets its contract: what is counted and what is still to be counted are the whole.
-use Prim.Native.Nat.{◌+◌, ◌-◌, ◌≤◌}
-use mathlib.Core.Path.{◌≡◌}
-use Rattle.model.specs.Bytes.{view, sum, run}
+use Rattle.model.specs.Bytes.{view}
 use Rattle.model.specs.Grow.{lacks_index}
 use Rattle.pour.proofs.CountLaws.{sum_step, sum_end}
 use native.Mathlib.Omega.{arith}
-use borrow.Author.Rules.{rules}
 use Rattle.pour.proofs.lacks_indexes.Goals as goal
 
 pub loop-j-init : goal.loop-j-init

@@ -4,7 +4,6 @@ use mathlib.Core.Path.{ap, ◌∙◌}
 use Rattle.model.specs.Bytes.{view, paste, from}
 use Rattle.pour.specs.Pouring.{laid_in}
 use native.Mathlib.Omega.{arith}
-use borrow.Author.Rules.{rules}
 use Rattle.pour.proofs.lay.Goals as goal
 
 pub copy_run-requires : goal.copy_run-requires

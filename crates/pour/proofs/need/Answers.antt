@@ -3,7 +3,6 @@ use mathlib.Core.Path.{◌≡◌}
 use Rattle.model.specs.Bytes.{view}
 use Rattle.pour.proofs.CountLaws.{deep_key, need_low, need_tree}
 use native.Mathlib.Omega.{arith}
-use borrow.Author.Rules.{rules}
 use Rattle.pour.proofs.need.Goals as goal
 
 pub returns-then-goal-ne2 : goal.returns-then-goal-ne2

@@ -1,14 +1,11 @@
 -- `pour::pour` meets its contract: what is left to pour gives the same image, and the hint stays below every free block.
-use Prim.Native.Nat.{◌+◌, ◌-◌, ◌*◌, ◌/◌, ◌≤◌}
-use mathlib.Core.Path.{◌≡◌, refl, sym, ◌∙◌}
+use Prim.Native.Nat.{◌-◌, ◌*◌, ◌/◌, ◌≤◌}
+use mathlib.Core.Path.{◌≡◌}
 use lib.ListN.{length}
-use Rattle.model.specs.Bytes.{view, Octets}
+use Rattle.model.specs.Bytes.{view}
 use Rattle.model.specs.Directory.{map_place}
 use Rattle.model.specs.Write.{poured}
 use Rattle.pour.specs.Pouring.{Hinted, Pourable}
-use Rattle.pour.proofs.Laws.{pour_roomy, pour_block, pour_hint, pour_more, pour_on, pour_none}
-use native.Mathlib.Omega.{arith}
-use borrow.Author.Rules.{rules}
 use Rattle.pour.proofs.pour.Given as goal
 
 abbrev pub invariant-loop-p : goal.invariant-loop-p

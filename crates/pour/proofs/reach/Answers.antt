@@ -6,7 +6,6 @@ use Rattle.model.specs.File.{pointer, put_pointer}
 use Rattle.growth.proofs.Laws.{map_fits, bit_fits}
 use Rattle.pour.proofs.Laws.{reach_there, told_there, low_is, reach_hole, told_hole}
 use native.Mathlib.Omega.{arith}
-use borrow.Author.Rules.{rules}
 use Rattle.pour.proofs.reach.Goals as goal
 
 pub get_pointer-there-requires : goal.get_pointer-there-requires
@@ -37,6 +36,9 @@ returns c =
     let a = c.args in
     let v = view a.img.now in
     let hole : pointer v a.key a.i ≡ 0 = omega (arith, c.get_pointer-there.ensures.value) in
-    let z = c.first_free-block.ensures.0 ∙ low_is a.n v a.key a.i a.hint c.requires.le_n.5 in record { img_after = c.put_pointer.ensures
+    let z = c.first_free-block.ensures.0 ∙ low_is a.n v a.key a.i a.hint c.requires.le_n.5 in record {
+      img_after = c.put_pointer.ensures
           ∙ ap (λ f. put_pointer f a.key a.i c.first_free-block.result) c.take.ensures
-          ∙ reach_hole a.n v a.key a.i a.hint _ z hole; value = told_hole a.n v a.key a.i a.hint _ z hole }
+          ∙ reach_hole a.n v a.key a.i a.hint _ z hole;
+      value = told_hole a.n v a.key a.i a.hint _ z hole;
+    }

@@ -1,7 +1,6 @@
 -- `read::read` meets its contract, by what the path leads to.
 use mathlib.Core.Path.{sym, ◌∙◌}
 use lib.ListN.{length}
-use borrow.Author.Rules.{rules}
 use Rattle.model.specs.Bytes.{view}
 use Rattle.read.proofs.ReadLaws.{read_refused, read_volume, read_entry}
 use Rattle.read.proofs.read.Goals as goal

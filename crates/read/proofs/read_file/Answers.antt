@@ -2,7 +2,6 @@
 use mathlib.Core.Path.{sym, ap, ◌∙◌}
 use lib.ListN.{length}
 use native.Mathlib.Omega.{arith}
-use borrow.Author.Rules.{rules}
 use Rattle.model.specs.Bytes.{view, paste, from}
 use Rattle.model.specs.File.{file_byte}
 use Rattle.model.specs.declared.Refusal.TheVariants.{BadKind, Locked, BadPosition, EndOfFile}

@@ -1,10 +1,7 @@
 -- `release::give_all_data` meets its contract. The loop's invariant: what the pointers from i on lead to is left to give back. The measure is the pointers left.
 use native.Mathlib.Omega.{arith}
-use mathlib.Core.Path.{◌≡◌}
-use Prim.Native.Nat.{◌-◌, ◌≤◌}
-use lib.ListN.{length}
 use Rattle.model.specs.Bytes.{view}
-use Rattle.release.proofs.Laws.{Giving, giving_start, giving_limb, giving_on, giving_done}
+use Rattle.release.proofs.Laws.{giving_start, giving_limb, giving_on, giving_done}
 use Rattle.release.proofs.give_all_data.Goals as goal
 
 pub loop-i-init : goal.loop-i-init

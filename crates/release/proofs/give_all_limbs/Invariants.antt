@@ -1,10 +1,9 @@
 -- `release::give_all_limbs` meets its contract. The loop's invariant: what the pointers from i on lead to is left to give back. The measure is the pointers left.
-use native.Mathlib.Omega.{arith}
 use mathlib.Core.Path.{◌≡◌}
 use Prim.Native.Nat.{◌-◌, ◌≤◌}
 use lib.ListN.{length}
 use Rattle.model.specs.Bytes.{view}
-use Rattle.release.proofs.Laws.{Giving, giving_start, giving_limb, giving_on, giving_done}
+use Rattle.release.proofs.Laws.{Giving}
 use Rattle.release.proofs.give_all_limbs.Given as goal
 
 abbrev pub invariant-loop-i : goal.invariant-loop-i

@@ -1,10 +1,8 @@
 -- `release::give_chain` meets its contract. The loop's invariant: the chain from b on is left to give back. The measure is the blocks left.
-use native.Mathlib.Omega.{arith}
 use mathlib.Core.Path.{◌≡◌}
 use lib.ListN.{length}
 use Rattle.model.specs.Bytes.{view}
-use Rattle.model.specs.Map.{map_at}
-use Rattle.release.proofs.Laws.{Chaining, chaining_start, chaining_low, chaining_on, chaining_done}
+use Rattle.release.proofs.Laws.{Chaining}
 use Rattle.release.proofs.give_chain.Given as goal
 
 abbrev pub invariant-loop-left : goal.invariant-loop-left

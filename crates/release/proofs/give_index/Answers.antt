@@ -4,7 +4,6 @@ use Rattle.model.specs.Bytes.{view}
 use Rattle.model.specs.Map.{map_at}
 use Rattle.release.specs.Loose.{below}
 use Rattle.release.proofs.Laws.{loose_head, tree_more, key_loose, key_done}
-use borrow.Author.Rules.{rules}
 use Rattle.release.proofs.give_index.Goals as goal
 
 pub give-requires : goal.give-requires

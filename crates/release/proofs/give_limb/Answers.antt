@@ -6,7 +6,6 @@ use Rattle.model.specs.Directory.{map_place}
 use Rattle.model.specs.Calls.{given_all}
 use Rattle.release.specs.Loose.{limb_at}
 use Rattle.release.proofs.Laws.{loose_head, loose_tail, limb_hole, limb_held}
-use borrow.Author.Rules.{rules}
 use Rattle.release.proofs.give_limb.Goals as goal
 
 pub get_pointer-p-requires : goal.get_pointer-p-requires

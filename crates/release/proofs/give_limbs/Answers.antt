@@ -6,7 +6,6 @@ use Rattle.model.specs.Bytes.{view}
 use Rattle.model.specs.Directory.{map_place}
 use Rattle.model.specs.Calls.{given_all}
 use Rattle.release.specs.Loose.{below}
-use borrow.Author.Rules.{rules}
 use Rattle.release.proofs.give_limbs.Goals as goal
 
 pub give_all_data-requires : goal.give_all_data-requires

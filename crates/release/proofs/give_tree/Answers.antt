@@ -8,7 +8,6 @@ use Rattle.model.specs.Map.{map_at}
 use Rattle.model.specs.Calls.{given_all}
 use Rattle.release.specs.Loose.{tree}
 use Rattle.release.proofs.Laws.{tree_leaf, tree_key, key_loose, key_done}
-use borrow.Author.Rules.{rules}
 use Rattle.release.proofs.give_tree.Goals as goal
 
 pub give-requires : goal.give-requires

@@ -2,7 +2,6 @@
 use mathlib.Core.Path.{sym, ap, ◌∙◌}
 use Rattle.rename.specs.Renamed.{is_other_place}
 use Rattle.rename.proofs.RenameLaws.{other_same, other_block}
-use borrow.Author.Rules.{rules}
 use Rattle.rename.proofs.is_other.Goals as goal
 
 pub returns-then-at-place : goal.returns-then-at-place

@@ -6,7 +6,6 @@ use lib.ListN.{length}
 use Rattle.model.specs.Bytes.{view}
 use Rattle.model.specs.Rename.{named}
 use Rattle.rename.specs.Renamed.{named_in}
-use borrow.Author.Rules.{rules}
 use Rattle.rename.proofs.put_names.Goals as goal
 
 pub returns-in-Seedling : goal.returns-in-Seedling

@@ -7,7 +7,6 @@ use Rattle.model.specs.declared.Refusal.TheVariants.{BadPath}
 use Rattle.directory.proofs.SlotLaws.{never}
 use Rattle.opening.specs.Opened.{opened_if}
 use Rattle.rename.proofs.RenameLaws.{name_short, rename_volume, rename_entry, rename_does_refused}
-use borrow.Author.Rules.{rules}
 use Rattle.rename.proofs.rename.Goals as goal
 
 pub returns-in-Refused : goal.returns-in-Refused

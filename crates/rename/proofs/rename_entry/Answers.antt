@@ -1,7 +1,6 @@
 -- `rename::rename_entry` meets its contract. The refusals, then the names, then the backup bit.
 use mathlib.Core.Path.{sym, ap, ◌∙◌}
 use Prim.Native.Nat.{◌+◌, ◌≤◌}
-use borrow.Author.Tests.{not-true, not-false}
 use native.Mathlib.Omega.{arith}
 use lib.ListN.{length}
 use Rattle.model.specs.Bytes.{view, put}
@@ -9,7 +8,6 @@ use Rattle.model.specs.Rename.{named}
 use Rattle.rename.specs.Renamed.{named_in}
 use Rattle.rename.proofs.EntryLaws.{held_fits}
 use Rattle.rename.proofs.RenameLaws.{found_other, entry_duplicate, entry_locked, entry_done}
-use borrow.Author.Rules.{rules}
 use Rattle.rename.proofs.rename_entry.Goals as goal
 
 pub returns-then-is_other : goal.returns-then-is_other

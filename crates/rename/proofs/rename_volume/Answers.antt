@@ -1,11 +1,9 @@
 -- `rename::rename_volume` meets its contract. The access bit, then the name.
 use mathlib.Core.Path.{sym, ◌∙◌}
-use borrow.Author.Tests.{not-true, not-false}
 use lib.ListN.{length}
 use Rattle.model.specs.Bytes.{view}
 use Rattle.model.specs.Directory.{at}
 use Rattle.rename.proofs.RenameLaws.{volume_locked, volume_done}
-use borrow.Author.Rules.{rules}
 use Rattle.rename.proofs.rename_volume.Goals as goal
 
 pub returns-then-not-may_rename : goal.returns-then-not-may_rename

@@ -4,7 +4,6 @@ use lib.ListN.{length}
 use Rattle.model.specs.Bytes.{view}
 use Rattle.ink.proofs.InkLaws.{prints_as, ◌then◌}
 use Rattle.replies.proofs.LineLaws.{buffer_none, buffer_shown, buffer_digest}
-use borrow.Author.Rules.{rules}
 use Rattle.replies.proofs.put_buffer.Goals as goal
 
 pub returns-then-buffer-eq0 : goal.returns-then-buffer-eq0

@@ -2,7 +2,6 @@
 use mathlib.Core.Path.{ap}
 use Rattle.ink.proofs.InkLaws.{prints_as, ◌then◌}
 use Rattle.replies.specs.Lines.{digest_text}
-use borrow.Author.Rules.{rules}
 use Rattle.replies.proofs.put_digest.Goals as goal
 
 pub returns : goal.returns

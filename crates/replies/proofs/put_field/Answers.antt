@@ -1,7 +1,6 @@
 -- `replies::put_field` meets its contract. A byte or a number, by its form.
 use Rattle.ink.proofs.InkLaws.{prints_as, ◌then◌}
 use Rattle.replies.proofs.LineLaws.{field_byte, field_number}
-use borrow.Author.Rules.{rules}
 use Rattle.replies.proofs.put_field.Goals as goal
 
 pub returns-then-form-eq66 : goal.returns-then-form-eq66

@@ -1,15 +1,10 @@
 -- `replies::put_fields` meets its contract. The invariant says what is left to be printed.
-use native.Mathlib.Omega.{arith}
 use Prim.Native.Nat.{◌-◌, ◌≤◌}
-use mathlib.Core.Path.{◌≡◌, refl}
-use native.Mathlib.Nat.{sub-zero}
+use mathlib.Core.Path.{◌≡◌}
 use lib.ListN.{length}
 use Rattle.model.specs.Bytes.{view}
 use Rattle.ink.specs.Ink.{sheet, emit}
-use Rattle.ink.proofs.InkLaws.{emit_rest, emit_done}
 use Rattle.replies.specs.Lines.{fields_text}
-use Rattle.replies.proofs.LineLaws.{fields_next, fields_end}
-use borrow.Author.Rules.{rules}
 use Rattle.replies.proofs.put_fields.Given as goal
 
 abbrev pub invariant-loop-i : goal.invariant-loop-i

@@ -2,7 +2,6 @@
 use Rattle.model.specs.Catalog.{text}
 use Rattle.ink.proofs.InkLaws.{◌then◌}
 use Rattle.replies.specs.Lines.{bad_line}
-use borrow.Author.Rules.{rules}
 use Rattle.replies.proofs.say_bad_line.Goals as goal
 
 pub returns : goal.returns

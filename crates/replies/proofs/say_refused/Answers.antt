@@ -2,7 +2,6 @@
 use mathlib.Core.Path.{ap}
 use Rattle.model.specs.Catalog.{text, hex_byte, refused_line}
 use Rattle.ink.proofs.InkLaws.{prints_as, ◌then◌}
-use borrow.Author.Rules.{rules}
 use Rattle.replies.proofs.say_refused.Goals as goal
 
 pub returns : goal.returns

@@ -1,7 +1,6 @@
 -- `replies::say_space` meets its contract. A call is done, or its number is printed, which is never 0.
 use Rattle.ink.proofs.InkLaws.{prints_as}
 use Rattle.replies.proofs.LineLaws.{reply_done, reply_refused}
-use borrow.Author.Rules.{rules}
 use Rattle.replies.proofs.say_space.Goals as goal
 
 pub returns-in-Blocks : goal.returns-in-Blocks

@@ -5,7 +5,6 @@ use Rattle.model.specs.Bytes.{view}
 use Rattle.model.proofs.Laws.Grown.{height_le}
 use Rattle.opening.proofs.EntryLaws.{height_small}
 use Rattle.resize.proofs.Laws.{resized_more, key_more, resized_by, key_by}
-use borrow.Author.Rules.{rules}
 use Rattle.resize.proofs.reach.Goals as goal
 
 pub grow-requires : goal.grow-requires
@@ -27,5 +26,8 @@ pub returns : goal.returns
 returns c =
     let a = c.args in
     let v = view a.img.now in
-    let to = c.height_for-to.result in record { img_after = c.shrink.ensures.img_after
-          ∙ resized_by a.n v a.height a.key a.eof a.end (omega arith) to c.span_of-blocks.result c.height_for-to.ensures.0 c.span_of-blocks.ensures; value = c.shrink.ensures.value ∙ key_by a.n v a.height a.key a.eof a.end (omega arith) to c.height_for-to.ensures.0 }
+    let to = c.height_for-to.result in record {
+      img_after = c.shrink.ensures.img_after
+          ∙ resized_by a.n v a.height a.key a.eof a.end (omega arith) to c.span_of-blocks.result c.height_for-to.ensures.0 c.span_of-blocks.ensures;
+      value = c.shrink.ensures.value ∙ key_by a.n v a.height a.key a.eof a.end (omega arith) to c.height_for-to.ensures.0;
+    }

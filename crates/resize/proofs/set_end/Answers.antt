@@ -29,13 +29,16 @@ note-requires c =
     let a = c.args in
     let p = c.requires in
     let H = p.img_len.3 in
-    let slot = held_slot H in record { le_n = (
+    let slot = held_slot H in record {
+      le_n = (
         H.ready.sound.large,
         H.ready.sound.small,
         omega (arith, p.img_len.0),
         omega (arith, p.img_len.0, c.slot_at-at.ensures),
         c.height_for-new_height.ensures.1,
-      ); n_bound = room_left H a.eof p.img_len.1 a.free p.free_value.0 p.free_value.1 c.height_of-height.result c.key_of-key.result c.height_of-height.ensures c.key_of-key.ensures _ _ c.reach-new_key.ensures.img_after c.reach-new_key.ensures.value }
+      );
+      n_bound = room_left H a.eof p.img_len.1 a.free p.free_value.0 p.free_value.1 c.height_of-height.result c.key_of-key.result c.height_of-height.ensures c.key_of-key.ensures _ _ c.reach-new_key.ensures.img_after c.reach-new_key.ensures.value;
+    }
 
 pub returns : goal.returns
 returns c =

@@ -4,7 +4,6 @@ use native.Mathlib.Omega.{arith}
 use lib.ListN.{length}
 use Rattle.model.specs.Bytes.{view}
 use Rattle.resize.proofs.EndLaws.{set_eof_refused, set_eof_volume, set_eof_entry}
-use borrow.Author.Rules.{rules}
 use Rattle.resize.proofs.set_eof.Goals as goal
 
 pub set_entry-requires : goal.set_entry-requires

@@ -1,11 +1,9 @@
 -- `script::all_pairs` meets its contract: the pairs left decide.
 use mathlib.Core.Path.{◌≡◌, sym, ◌∙◌}
-use Prim.Native.Nat.{suc, ◌+◌, ◌-◌, ◌*◌, ◌≤◌}
+use Prim.Native.Nat.{suc, ◌+◌, ◌-◌, ◌*◌}
 use native.Mathlib.Omega.{arith}
 use Rattle.model.specs.Bytes.{view}
-use Rattle.script.specs.Fields.{all_pairs}
 use Rattle.script.proofs.FieldLaws.{pairs_more, pairs_not, pairs_none}
-use borrow.Author.Rules.{rules}
 use Rattle.script.proofs.all_pairs.Goals as goal
 
 pub loop-seen-init : goal.loop-seen-init

@@ -1,11 +1,8 @@
 -- `script::all_pairs` meets its contract: the pairs left decide.
-use mathlib.Core.Path.{◌≡◌, sym, ◌∙◌}
-use Prim.Native.Nat.{suc, ◌+◌, ◌-◌, ◌*◌, ◌≤◌}
-use native.Mathlib.Omega.{arith}
+use mathlib.Core.Path.{◌≡◌}
+use Prim.Native.Nat.{◌+◌, ◌-◌, ◌*◌, ◌≤◌}
 use Rattle.model.specs.Bytes.{view}
 use Rattle.script.specs.Fields.{all_pairs}
-use Rattle.script.proofs.FieldLaws.{pairs_more, pairs_not, pairs_none}
-use borrow.Author.Rules.{rules}
 use Rattle.script.proofs.all_pairs.Given as goal
 
 abbrev pub invariant-loop-seen : goal.invariant-loop-seen

@@ -1,11 +1,9 @@
 -- `script::all_plain` meets its contract: the bytes left decide.
 use mathlib.Core.Path.{◌≡◌, refl, sym, ◌∙◌}
-use Prim.Native.Nat.{suc, ◌+◌, ◌-◌, ◌≤◌}
+use Prim.Native.Nat.{suc, ◌+◌, ◌-◌}
 use native.Mathlib.Omega.{arith}
 use Rattle.model.specs.Bytes.{view}
-use Rattle.script.specs.Fields.{all_plain}
 use Rattle.script.proofs.FieldLaws.{plain_more, plain_not, plain_none}
-use borrow.Author.Rules.{rules}
 use Rattle.script.proofs.all_plain.Goals as goal
 
 pub loop-at-init : goal.loop-at-init

@@ -1,11 +1,8 @@
 -- `script::all_plain` meets its contract: the bytes left decide.
-use mathlib.Core.Path.{◌≡◌, refl, sym, ◌∙◌}
-use Prim.Native.Nat.{suc, ◌+◌, ◌-◌, ◌≤◌}
-use native.Mathlib.Omega.{arith}
+use mathlib.Core.Path.{◌≡◌}
+use Prim.Native.Nat.{◌-◌, ◌≤◌}
 use Rattle.model.specs.Bytes.{view}
 use Rattle.script.specs.Fields.{all_plain}
-use Rattle.script.proofs.FieldLaws.{plain_more, plain_not, plain_none}
-use borrow.Author.Rules.{rules}
 use Rattle.script.proofs.all_plain.Given as goal
 
 abbrev pub invariant-loop-at : goal.invariant-loop-at

@@ -4,7 +4,6 @@ use Prim.Native.Nat.{◌-◌}
 use native.Mathlib.Omega.{arith}
 use Rattle.model.specs.Bytes.{view}
 use Rattle.script.proofs.FieldLaws.{byte_two, byte_not}
-use borrow.Author.Rules.{rules}
 use Rattle.script.proofs.byte_value.Goals as goal
 
 pub returns-then-end-start-ne2 : goal.returns-then-end-start-ne2

@@ -2,7 +2,6 @@
 use mathlib.Core.Path.{sym}
 use native.Mathlib.Omega.{arith}
 use Rattle.script.proofs.FieldLaws.{digit_low, digit_capital, digit_small, digit_none}
-use borrow.Author.Rules.{rules}
 use Rattle.script.proofs.digit_value.Goals as goal
 
 pub returns-in-48-to-57 : goal.returns-in-48-to-57

@@ -4,7 +4,6 @@ use Prim.Native.Nat.{◌-◌}
 use native.Mathlib.Omega.{arith}
 use Rattle.model.specs.Bytes.{view}
 use Rattle.script.proofs.FieldLaws.{half_low, half_high}
-use borrow.Author.Rules.{rules}
 use Rattle.script.proofs.half_value.Goals as goal
 
 pub returns-then-value-gt65535 : goal.returns-then-value-gt65535

@@ -4,7 +4,6 @@ use Prim.Native.Nat.{◌-◌}
 use native.Mathlib.Omega.{arith}
 use Rattle.model.specs.Bytes.{view}
 use Rattle.script.proofs.FieldLaws.{dash_one, dash_longer}
-use borrow.Author.Rules.{rules}
 use Rattle.script.proofs.is_dash.Goals as goal
 
 pub returns-then-end-start-ne1 : goal.returns-then-end-start-ne1

@@ -4,7 +4,6 @@ use native.Mathlib.Omega.{arith}
 use lib.ListN.{length}
 use Rattle.model.specs.Bytes.{view}
 use Rattle.script.proofs.FieldLaws.{word_other, word_past, word_by}
-use borrow.Author.Rules.{rules}
 use Rattle.script.proofs.is_word.Goals as goal
 
 pub returns-then-end-word : goal.returns-then-end-word

@@ -1,11 +1,8 @@
 -- `script::number_value` meets its contract: the digits left, behind those passed, say the whole number, which stays below a power of ten.
-use mathlib.Core.Path.{◌≡◌, refl, sym, ◌∙◌}
-use Prim.Native.Nat.{suc, ◌+◌, ◌-◌, ◌^◌, ◌≤◌, ◌<◌}
-use native.Mathlib.Omega.{arith}
+use mathlib.Core.Path.{◌≡◌}
+use Prim.Native.Nat.{◌-◌, ◌^◌, ◌≤◌, ◌<◌}
 use Rattle.model.specs.Bytes.{view}
 use Rattle.script.specs.Fields.{decimal_from}
-use Rattle.script.proofs.FieldLaws.{decimal_more, decimal_not, decimal_none, tens_none, tens_more, tens_most, number_in, number_out}
-use borrow.Author.Rules.{rules}
 use Rattle.script.proofs.number_value.Given as goal
 
 abbrev pub invariant-loop-at : goal.invariant-loop-at

@@ -3,7 +3,6 @@ use mathlib.Core.Path.{sym}
 use native.Mathlib.Omega.{arith}
 use Rattle.model.specs.Bytes.{view}
 use Rattle.script.proofs.FieldLaws.{pair_good, pair_high, pair_low}
-use borrow.Author.Rules.{rules}
 use Rattle.script.proofs.pair_value.Goals as goal
 
 pub returns-then-high-gt15 : goal.returns-then-high-gt15

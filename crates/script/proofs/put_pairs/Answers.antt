@@ -1,8 +1,8 @@
 -- `script::put_pairs` meets its contract: the bytes of the pairs passed are pasted.
 use mathlib.Core.Path.{◌≡◌, refl, sym, ap, ◌∙◌}
-use Prim.Native.Nat.{◌+◌, ◌-◌, ◌≤◌}
+use Prim.Native.Nat.{◌+◌}
 use native.Mathlib.Omega.{arith}
-use lib.ListN.{length, length-set}
+use lib.ListN.{length-set}
 use Rattle.model.specs.Bytes.{view, put, paste}
 use Rattle.model.proofs.ByteLaws.{view_set, paste_none, paste_more}
 use Rattle.script.specs.Fields.{pairs}

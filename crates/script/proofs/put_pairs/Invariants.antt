@@ -1,13 +1,9 @@
 -- `script::put_pairs` meets its contract: the bytes of the pairs passed are pasted.
-use mathlib.Core.Path.{◌≡◌, refl, sym, ap, ◌∙◌}
-use Prim.Native.Nat.{◌+◌, ◌-◌, ◌≤◌}
-use native.Mathlib.Omega.{arith}
-use lib.ListN.{length, length-set}
-use Rattle.model.specs.Bytes.{view, put, paste}
-use Rattle.model.proofs.ByteLaws.{view_set, paste_none, paste_more}
+use mathlib.Core.Path.{◌≡◌}
+use Prim.Native.Nat.{◌-◌, ◌≤◌}
+use lib.ListN.{length}
+use Rattle.model.specs.Bytes.{view, paste}
 use Rattle.script.specs.Fields.{pairs}
-use Rattle.script.proofs.FieldLaws.{pairs_at}
-use borrow.Author.Rules.{rules}
 use Rattle.script.proofs.put_pairs.Given as goal
 
 abbrev pub invariant-loop-done : goal.invariant-loop-done

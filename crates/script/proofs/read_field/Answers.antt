@@ -4,7 +4,6 @@ use lib.ListN.{length}
 use Rattle.model.specs.Bytes.{view}
 use Rattle.model.proofs.ByteLaws.{view_set}
 use Rattle.script.proofs.FormLaws.{found, read_past, read_good, read_bad}
-use borrow.Author.Rules.{rules}
 use Rattle.script.proofs.read_field.Goals as goal
 
 pub returns-then-line-at : goal.returns-then-line-at

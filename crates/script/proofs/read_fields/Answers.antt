@@ -1,6 +1,6 @@
 -- `script::read_fields` meets its contract: reading the fields left, from what was found, is reading them all.
 use mathlib.Core.Path.{◌≡◌, refl, sym, ap, ◌∙◌}
-use Prim.Native.Nat.{suc, ◌+◌, ◌-◌, ◌≤◌}
+use Prim.Native.Nat.{suc, ◌+◌, ◌-◌}
 use native.Mathlib.Omega.{arith}
 use lib.Dec.{eqb}
 use lib.ListN.{length, get_or}
@@ -8,7 +8,6 @@ use Rattle.model.specs.Bytes.{view}
 use Rattle.script.specs.Fields.{read_field, read_fields}
 use Rattle.script.proofs.FormLaws.{found, read_more, read_none}
 use Rattle.script.proofs.FitLaws.{fits}
-use borrow.Author.Rules.{rules}
 use Rattle.script.proofs.read_fields.Goals as goal
 
 pub loop-i-init : goal.loop-i-init
@@ -45,9 +44,12 @@ returns c =
     let f = found a.at (view a.values.now) (view a.room.now) (view a.buffer.now) in
     let h = found l.now (view l.values) (view l.room) (view l.buffer) in
     let e : k - l.i ≡ 0 = omega arith in
-    let g : h ≡ read_fields s n m forms 0 k f = sym (rw e (read_none s n m forms l.i h)) ∙ l.invariant.4 in record { takes = record {
+    let g : h ≡ read_fields s n m forms 0 k f = sym (rw e (read_none s n m forms l.i h)) ∙ l.invariant.4 in record {
+      takes = record {
         good = ap (λ x. eqb x.at n) g;
         values = ap (λ x. x.values) g;
         room = ap (λ x. x.room) g;
         buffer = ap (λ x. x.buffer) g;
-      }; fits = fits s n m forms k f h (omega arith) g }
+      };
+      fits = fits s n m forms k f h (omega arith) g;
+    }

@@ -1,14 +1,10 @@
 -- `script::read_fields` meets its contract: reading the fields left, from what was found, is reading them all.
-use mathlib.Core.Path.{◌≡◌, refl, sym, ap, ◌∙◌}
-use Prim.Native.Nat.{suc, ◌+◌, ◌-◌, ◌≤◌}
-use native.Mathlib.Omega.{arith}
-use lib.Dec.{eqb}
-use lib.ListN.{length, get_or}
+use mathlib.Core.Path.{◌≡◌}
+use Prim.Native.Nat.{◌-◌, ◌≤◌}
+use lib.ListN.{length}
 use Rattle.model.specs.Bytes.{view}
-use Rattle.script.specs.Fields.{read_field, read_fields}
-use Rattle.script.proofs.FormLaws.{found, read_more, read_none}
-use Rattle.script.proofs.FitLaws.{fits}
-use borrow.Author.Rules.{rules}
+use Rattle.script.specs.Fields.{read_fields}
+use Rattle.script.proofs.FormLaws.{found}
 use Rattle.script.proofs.read_fields.Given as goal
 
 abbrev pub invariant-loop-i : goal.invariant-loop-i

@@ -6,7 +6,6 @@ use lib.ListN.{length}
 use Rattle.model.specs.Bytes.{view, paste}
 use Rattle.script.specs.Fields.{pairs, sized}
 use Rattle.script.proofs.FieldLaws.{data_empty, data_dash, data_pairs, paste_bad, paste_empty}
-use borrow.Author.Rules.{rules}
 use Rattle.script.proofs.take_data.Goals as goal
 
 pub returns-then-end-start : goal.returns-then-end-start

@@ -3,7 +3,6 @@ use Prim.Native.Nat.{◌-◌}
 use lib.ListN.{length}
 use Rattle.model.specs.Bytes.{view}
 use Rattle.script.proofs.FormLaws.{taken_number, taken_half, taken_byte, taken_data, taken_text, taken_second, taken_none}
-use borrow.Author.Rules.{rules}
 use Rattle.script.proofs.take_field.Goals as goal
 
 pub returns-in-78 : goal.returns-in-78

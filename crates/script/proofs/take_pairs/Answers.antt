@@ -2,11 +2,9 @@
 use mathlib.Core.Path.{sym, ap, ◌∙◌}
 use Prim.Native.Nat.{◌-◌, ◌/◌, ◌≤◌}
 use native.Mathlib.Omega.{arith}
-use borrow.Author.Tests.{not-true, not-false}
 use Rattle.model.specs.Bytes.{view, paste}
 use Rattle.script.specs.Fields.{largest, pairs}
 use Rattle.script.proofs.FieldLaws.{size_odd, size_many, size_other, size_good, sized_good, paste_bad}
-use borrow.Author.Rules.{rules}
 use Rattle.script.proofs.take_pairs.Goals as goal
 
 pub returns-then-size-ne0 : goal.returns-then-size-ne0
@@ -28,5 +26,8 @@ pub returns : goal.returns
 returns c =
     let a = c.args in
     let k = (a.end - a.start) / 2 in
-    let l : k ≤ largest = omega arith in record { value = sym (size_good (view a.line.now) a.start (a.end - a.start) a.most (omega arith) (omega arith) (sym c.all_pairs.ensures ∙ c.if-not-all_pairs.false)); room_after = c.put_pairs.ensures
-          ∙ ap (λ n. paste (view a.room.now) a.to n (pairs (view a.line.now) a.start)) (sym (sized_good k l)) }
+    let l : k ≤ largest = omega arith in record {
+      value = sym (size_good (view a.line.now) a.start (a.end - a.start) a.most (omega arith) (omega arith) (sym c.all_pairs.ensures ∙ c.if-not-all_pairs.false));
+      room_after = c.put_pairs.ensures
+          ∙ ap (λ n. paste (view a.room.now) a.to n (pairs (view a.line.now) a.start)) (sym (sized_good k l));
+    }

@@ -3,7 +3,6 @@ use mathlib.Core.Path.{ap, ◌∙◌}
 use Prim.Native.Nat.{◌+◌}
 use Rattle.model.specs.Bytes.{put_word}
 use Rattle.model.specs.Calls.{put_stamp}
-use borrow.Author.Rules.{rules}
 use Rattle.set_info.proofs.put_info.Goals as goal
 
 pub returns : goal.returns

@@ -1,9 +1,8 @@
 -- `set_info::set_info` meets its contract. By what the path opens.
-use mathlib.Core.Path.{sym, ap, ◌∙◌}
+use mathlib.Core.Path.{ap, ◌∙◌}
 use lib.ListN.{length}
 use Rattle.model.specs.Bytes.{view}
 use Rattle.set_info.proofs.InfoLaws.{info_at, set_opened, set_does_refused, set_does_volume, set_does}
-use borrow.Author.Rules.{rules}
 use Rattle.set_info.proofs.set_info.Goals as goal
 
 pub returns-in-Refused : goal.returns-in-Refused

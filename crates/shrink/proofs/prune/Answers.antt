@@ -4,7 +4,6 @@ use native.Mathlib.Omega.{arith}
 use Rattle.model.specs.Bytes.{view}
 use Rattle.model.specs.Directory.{map_place}
 use Rattle.model.specs.SetEof.{pruned}
-use borrow.Author.Rules.{rules}
 use Rattle.shrink.proofs.prune.Goals as goal
 
 pub prune_index-requires : goal.prune_index-requires

@@ -1,10 +1,8 @@
 -- `shrink::prune_index` meets its contract. The pointers below i are trimmed, and the tree fits.
-use mathlib.Core.Path.{◌≡◌, refl}
+use mathlib.Core.Path.{refl}
 use native.Mathlib.Omega.{arith}
-use Prim.Native.Nat.{◌-◌, ◌≤◌}
-use lib.ListN.{length}
 use Rattle.model.specs.Bytes.{view}
-use Rattle.shrink.proofs.Laws.{Trimming, trim_start, trim_on, trim_end}
+use Rattle.shrink.proofs.Laws.{trim_start, trim_on, trim_end}
 use borrow.Author.Rules.{rules}
 use Rattle.shrink.proofs.prune_index.Goals as goal
 

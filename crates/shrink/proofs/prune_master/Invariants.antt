@@ -1,11 +1,9 @@
 -- `shrink::prune_master` meets its contract. The pointers below i are trimmed, and the tree fits.
-use mathlib.Core.Path.{◌≡◌, refl}
-use native.Mathlib.Omega.{arith}
+use mathlib.Core.Path.{◌≡◌}
 use Prim.Native.Nat.{◌-◌, ◌≤◌}
 use lib.ListN.{length}
 use Rattle.model.specs.Bytes.{view}
-use Rattle.shrink.proofs.Laws.{Trimming, trim_start, trim_on, trim_end}
-use borrow.Author.Rules.{rules}
+use Rattle.shrink.proofs.Laws.{Trimming}
 use Rattle.shrink.proofs.prune_master.Given as goal
 
 abbrev pub invariant-loop-i : goal.invariant-loop-i

@@ -25,6 +25,9 @@ prune-requires c =
 pub returns : goal.returns
 returns c =
     let a = c.args in
-    let count = a.height - a.to in record { img_after = c.prune.ensures
+    let count = a.height - a.to in record {
+      img_after = c.prune.ensures
           ∙ ap (λ f. pruned map_place a.end f a.to 0 c.sink-heir.result) c.sink-heir.ensures.img_after
-          ∙ ap (pruned map_place a.end (sunk map_place (view a.img.now) a.to a.key count) a.to 0) c.sink-heir.ensures.value; value = c.sink-heir.ensures.value }
+          ∙ ap (pruned map_place a.end (sunk map_place (view a.img.now) a.to a.key count) a.to 0) c.sink-heir.ensures.value;
+      value = c.sink-heir.ensures.value;
+    }

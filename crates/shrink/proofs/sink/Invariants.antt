@@ -1,11 +1,9 @@
 -- `shrink::sink` meets its contract. The keys left to give way, taken from the present image, give what all of them give.
-use mathlib.Core.Path.{◌≡◌, refl}
-use native.Mathlib.Omega.{arith}
+use mathlib.Core.Path.{◌≡◌}
 use Prim.Native.Nat.{◌≤◌}
 use lib.ListN.{length}
 use Rattle.model.specs.Bytes.{view}
-use Rattle.shrink.proofs.Laws.{Sinking, sink_start, sink_fit, sink_on, sink_end}
-use borrow.Author.Rules.{rules}
+use Rattle.shrink.proofs.Laws.{Sinking}
 use Rattle.shrink.proofs.sink.Given as goal
 
 abbrev pub invariant-loop-left : goal.invariant-loop-left

@@ -8,7 +8,6 @@ use Rattle.model.specs.File.{first_below}
 use Rattle.model.specs.SetEof.{pruned}
 use Rattle.model.proofs.Laws.Move.{fit_key, fit_below}
 use Rattle.shrink.proofs.Laws.{trim_hole, trim_late, trim_early}
-use borrow.Author.Rules.{rules}
 use Rattle.shrink.proofs.trim_index.Goals as goal
 
 pub get_pointer-index-requires : goal.get_pointer-index-requires

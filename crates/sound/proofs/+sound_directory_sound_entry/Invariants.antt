@@ -1,20 +1,14 @@
 -- `sound::sound_directory` and `sound::sound_entry`, which call each other, meet their contracts. An entry's measure is twice its levels, a directory's
 -- one more. Both loops keep what is still to be claimed: the entries ahead.
-use Prim.Native.Nat.{ℕ, ◌+◌, ◌-◌, ◌*◌, ◌<◌, ◌≤◌}
-use mathlib.Core.Path.{◌≡◌, refl, sym, ap, ◌∙◌}
+use Prim.Native.Nat.{◌+◌, ◌-◌, ◌*◌, ◌<◌, ◌≤◌}
+use mathlib.Core.Path.{◌≡◌}
 use lib.ListN.{length}
-use borrow.Author.Rules.{rules}
-use borrow.Author.Tests.{not-true, not-false}
 use Rattle.model.specs.Bytes.{view, gather}
 use Rattle.model.specs.Directory.{next, chain}
-use Rattle.claims.specs.Claims.{claim, outcome}
+use Rattle.claims.specs.Claims.{claim}
 use Rattle.marks.specs.Marks.{marks}
 use Rattle.checks.specs.Inside.{Inside, ahead}
-use Rattle.checks.proofs.Laws.{inside_chain}
-use Rattle.sound.specs.Work.{entry_work, list_work, right_of}
-use Rattle.sound.specs.declared.Own.{Own}
-use Rattle.sound.proofs.WorkLaws.{entry_wrong, entry_whole, entry_inner, inner_work, opened, nothing_below, entries_start, entries_step, entries_wrong, entries_done, entries_next, list_wrong, list_right}
-use native.Mathlib.Omega.{arith}
+use Rattle.sound.specs.Work.{entry_work, list_work}
 use Rattle.sound.proofs.+sound_directory_sound_entry.Given as goal
 
 abbrev pub decreases-sound_directory : goal.decreases-sound_directory

@@ -1,5 +1,4 @@
 -- `sound::count_right` meets its contract.
-use borrow.Author.Rules.{rules}
 use Rattle.sound.proofs.count_right.Goals as goal
 
 pub returns : goal.returns

@@ -1,7 +1,6 @@
 -- `sound::directory_right` meets its contract. Each test that fails ends the conjunction.
 use borrow.Author.Tests.{eq-eqb, ne_eqb}
 use Rattle.model.specs.Bytes.{◌and◌}
-use borrow.Author.Rules.{rules}
 use Rattle.sound.proofs.directory_right.Goals as goal
 
 pub returns-then-entry-ne-DIRECTORY_TYPE : goal.returns-then-entry-ne-DIRECTORY_TYPE

@@ -1,9 +1,7 @@
 -- `sound::entry_right` meets its contract.
 use native.Mathlib.Omega.{arith}
-use borrow.Author.Tests.{not-true, not-false}
 use Rattle.model.specs.Bytes.{◌and◌}
 use Rattle.checks.proofs.Laws.{slot_in}
-use borrow.Author.Rules.{rules}
 use Rattle.sound.proofs.entry_right.Goals as goal
 
 pub name_right-requires : goal.name_right-requires

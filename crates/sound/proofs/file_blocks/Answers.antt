@@ -1,7 +1,6 @@
 -- `sound::file_blocks` meets its contract.
 use native.Mathlib.Omega.{arith}
 use Rattle.model.specs.File.{span}
-use borrow.Author.Rules.{rules}
 use Rattle.sound.proofs.file_blocks.Goals as goal
 
 pub returns-then-blocks-lt1 : goal.returns-then-blocks-lt1

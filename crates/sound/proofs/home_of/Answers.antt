@@ -6,7 +6,6 @@ use Rattle.model.specs.Bytes.{view, word}
 use Rattle.model.proofs.Laws.Keep.{field_at}
 use Rattle.checks.proofs.Laws.{slot_in}
 use Rattle.sound.proofs.WorkLaws.{field_volume}
-use borrow.Author.Rules.{rules}
 use Rattle.sound.proofs.home_of.Goals as goal
 
 pub returns-then-place-eq-VOLUME : goal.returns-then-place-eq-VOLUME

@@ -1,12 +1,10 @@
 -- `sound::is_sound` meets its contract. The walk and the map decide soundness (claims, Agreement).
 use mathlib.Core.Path.{sym, ◌∙◌}
-use borrow.Author.Tests.{not-true, not-false}
 use Rattle.model.specs.Bytes.{view}
 use Rattle.claims.proofs.SoundFacts.{not_prodos_law, not_placed}
 use Rattle.claims.proofs.Agreement.{decided}
 use Rattle.marks.proofs.Laws.{blank}
 use Rattle.sound.proofs.WorkLaws.{size_right, volume_header_law}
-use borrow.Author.Rules.{rules}
 use Rattle.sound.proofs.is_sound.Goals as goal
 
 pub returns-then-not-is_prodos : goal.returns-then-not-is_prodos

@@ -2,12 +2,10 @@
 use mathlib.Core.Path.{◌≡◌, sym, ◌∙◌}
 use Prim.Native.Nat.{ℕ}
 use native.Mathlib.Omega.{arith}
-use borrow.Author.Tests.{not-true, not-false}
 use Rattle.model.specs.Bytes.{view}
 use Rattle.marks.specs.Marks.{marks}
 use Rattle.checks.proofs.Laws.{inside_chain}
 use Rattle.sound.proofs.WorkLaws.{chain_refused, chain_claimed, top_wrong, count_left}
-use borrow.Author.Rules.{rules}
 use Rattle.sound.proofs.open_directory.Goals as goal
 
 pub returns-then-not-claim_chain : goal.returns-then-not-claim_chain
@@ -27,8 +25,11 @@ top_right-requires c =
 pub returns-then-not-top_right : goal.returns-then-not-top_right
 returns-then-not-top_right c =
     let a = c.args in
-    let k = c.claim_chain in record { seen_after = top_wrong a.n (view a.img.now) a.place a.key a.used (marks a.seen.now) (marks k.new.seen) k.result k.ensures c.if-not-claim_chain.false
-          (sym c.top_right.ensures ∙ c.if-not-top_right.true); inside = (λ z. let o : ◌≡◌ {A = ℕ} 0 1 = cc in absurd (omega arith)) }
+    let k = c.claim_chain in record {
+      seen_after = top_wrong a.n (view a.img.now) a.place a.key a.used (marks a.seen.now) (marks k.new.seen) k.result k.ensures c.if-not-claim_chain.false
+          (sym c.top_right.ensures ∙ c.if-not-top_right.true);
+      inside = (λ z. let o : ◌≡◌ {A = ℕ} 0 1 = cc in absurd (omega arith));
+    }
 
 pub count_right-requires : goal.count_right-requires
 count_right-requires c =
@@ -43,5 +44,8 @@ returns c =
     let a = c.args in
     let v = view a.img.now in
     let k = c.claim_chain in
-    let claimed = c.if-not-claim_chain.false in record { seen_after = count_left a.n v a.place a.key a.used (marks a.seen.now) (marks k.new.seen) k.result k.ensures c.count_right.result claimed
-          (sym c.top_right.ensures ∙ c.if-not-top_right.false) c.count_right.ensures; inside = (λ z. chain_claimed a.n v a.place a.key a.used (marks a.seen.now) (marks k.new.seen) k.result k.ensures claimed) }
+    let claimed = c.if-not-claim_chain.false in record {
+      seen_after = count_left a.n v a.place a.key a.used (marks a.seen.now) (marks k.new.seen) k.result k.ensures c.count_right.result claimed
+          (sym c.top_right.ensures ∙ c.if-not-top_right.false) c.count_right.ensures;
+      inside = (λ z. chain_claimed a.n v a.place a.key a.used (marks a.seen.now) (marks k.new.seen) k.result k.ensures claimed);
+    }

@@ -7,7 +7,6 @@ use Rattle.model.specs.Directory.{Sort}
 use Rattle.claims.specs.Claims.{Claim, claim, claims_of}
 use Rattle.marks.specs.Marks.{marks}
 use Rattle.sound.proofs.WorkLaws.{what_stands, a_directory, a_seedling, a_sapling, a_tree, file_levels, leads_any}
-use borrow.Author.Rules.{rules}
 use Rattle.sound.proofs.own_active.Goals as goal
 
 pub own_directory-requires : goal.own_directory-requires

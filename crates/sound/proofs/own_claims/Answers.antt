@@ -7,7 +7,6 @@ use Rattle.marks.specs.Marks.{marks}
 use Rattle.directory.proofs.SlotLaws.{says_inactive, says_improper}
 use Rattle.sound.specs.Work.{standing}
 use Rattle.sound.proofs.WorkLaws.{idle, no_kind}
-use borrow.Author.Rules.{rules}
 use Rattle.sound.proofs.own_claims.Goals as goal
 
 pub own_active-requires : goal.own_active-requires
@@ -25,5 +24,8 @@ returns-in-Inactive c =
 pub returns-in-Improper : goal.returns-in-Improper
 returns-in-Improper c =
     let a = c.args in
-    let v = view a.img.now in record { seen_after = no_kind a.n v a.levels a.home a.place (marks a.seen.now)
-          (says_improper (sort v a.place) (standing v a.place) (sym c.stands_at.ensures ∙ c.in-Improper.is)); leads = tt }
+    let v = view a.img.now in record {
+      seen_after = no_kind a.n v a.levels a.home a.place (marks a.seen.now)
+          (says_improper (sort v a.place) (standing v a.place) (sym c.stands_at.ensures ∙ c.in-Improper.is));
+      leads = tt;
+    }

@@ -3,14 +3,12 @@ use Prim.{tt}
 use mathlib.Core.Path.{sym, ap, ◌∙◌}
 use Prim.Native.Nat.{ℕ}
 use native.Mathlib.Omega.{arith}
-use borrow.Author.Tests.{not-true, not-false}
 use Rattle.model.specs.Bytes.{view}
 use Rattle.model.specs.Directory.{used}
 use Rattle.claims.proofs.ClaimLaws.{taken, refused}
 use Rattle.marks.specs.Marks.{marks}
 use Rattle.directory.specs.Search.{listed}
 use Rattle.sound.proofs.WorkLaws.{must_last, no_level, misnamed, misfit, chain_left, fields_some, directory_kids, used_read}
-use borrow.Author.Rules.{rules}
 use Rattle.sound.proofs.own_directory.Goals as goal
 
 pub returns-then-levels-eq0 : goal.returns-then-levels-eq0
@@ -27,8 +25,11 @@ returns-then-not-directory_right c =
     let a = c.args in
     let p = c.requires in
     let e = c.entry_right in
-    let f = c.directory_right in record { seen_after = misfit a.n (view a.img.now) a.levels a.home a.place (marks a.seen.now) p.ready.2 c.if-levels-eq0.false e.result e.ensures
-          a.entry p.describes.1 c.if-not-entry_right.false f.result f.ensures c.if-not-directory_right.true; leads = tt }
+    let f = c.directory_right in record {
+      seen_after = misfit a.n (view a.img.now) a.levels a.home a.place (marks a.seen.now) p.ready.2 c.if-levels-eq0.false e.result e.ensures
+          a.entry p.describes.1 c.if-not-entry_right.false f.result f.ensures c.if-not-directory_right.true;
+      leads = tt;
+    }
 
 pub open_directory-requires : goal.open_directory-requires
 open_directory-requires c =
@@ -59,7 +60,9 @@ returns c =
     let fit = c.if-not-directory_right.false in
     let done = c.if-not-open_directory.false in
     let left = chain_left a.n v a.levels a.home a.place (marks a.seen.now) p.ready.2 c.if-levels-eq0.false e.result e.ensures
-    a.entry p.describes.1 c.if-not-entry_right.false f.result f.ensures fit a.key p.describes.0 in record { seen_after = must_last a.n (marks k.new.seen) _ ∙ sym (taken a.n _ _ (marks a.seen.now) (marks k.new.seen) k.result done k.ensures.seen_after) ∙ left; leads = record {
+    a.entry p.describes.1 c.if-not-entry_right.false f.result f.ensures fit a.key p.describes.0 in record {
+      seen_after = must_last a.n (marks k.new.seen) _ ∙ sym (taken a.n _ _ (marks a.seen.now) (marks k.new.seen) k.result done k.ensures.seen_after) ∙ left;
+      leads = record {
         below =
             directory_kids v a.place p.ready.2
             ∙ ap (λ (b : ℕ). listed v b (used v a.place)) (sym p.describes.0)
@@ -68,4 +71,5 @@ returns c =
         some = fields_some a.entry.ftype a.entry.used _ (sym f.ensures ∙ fit);
         inside = k.ensures.inside done;
         level = omega (arith, c.if-levels-eq0.false);
-      } }
+      };
+    }

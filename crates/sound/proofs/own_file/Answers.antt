@@ -1,11 +1,9 @@
 -- `sound::own_file` meets its contract.
 use Prim.{tt}
 use mathlib.Core.Path.{◌∙◌}
-use borrow.Author.Tests.{not-true, not-false}
 use Rattle.model.specs.Bytes.{view}
 use Rattle.marks.specs.Marks.{marks}
 use Rattle.sound.proofs.WorkLaws.{when_taken, when_refused, file_misnamed, file_left, file_kids}
-use borrow.Author.Rules.{rules}
 use Rattle.sound.proofs.own_file.Goals as goal
 
 pub returns-then-not-entry_right : goal.returns-then-not-entry_right

@@ -5,7 +5,6 @@ use Rattle.model.specs.Bytes.{view}
 use Rattle.claims.specs.Claims.{claim, tree_claims}
 use Rattle.marks.specs.Marks.{marks, took_all, took_count}
 use Rattle.sound.proofs.WorkLaws.{file_type, file_height, file_refused, file_counted}
-use borrow.Author.Rules.{rules}
 use Rattle.sound.proofs.sound_file.Goals as goal
 
 pub returns-then-entry-eq-DIRECTORY_TYPE : goal.returns-then-entry-eq-DIRECTORY_TYPE

@@ -8,7 +8,6 @@ use Rattle.directory.specs.Slots.{slot_says}
 use Rattle.directory.proofs.SlotLaws.{slot_decoded}
 use Rattle.checks.proofs.Laws.{slot_in}
 use Rattle.sound.proofs.WorkLaws.{stands_volume, standing_entry}
-use borrow.Author.Rules.{rules}
 use Rattle.sound.proofs.stands_at.Goals as goal
 
 pub returns-then-place-eq-VOLUME : goal.returns-then-place-eq-VOLUME

@@ -6,7 +6,6 @@ use lib.Dec.{eqb}
 use Rattle.model.specs.Bytes.{view}
 use Rattle.checks.proofs.Laws.{slot_in}
 use Rattle.sound.proofs.WorkLaws.{top_volume, top_header}
-use borrow.Author.Rules.{rules}
 use Rattle.sound.proofs.top_right.Goals as goal
 
 pub returns-then-place-eq-VOLUME : goal.returns-then-place-eq-VOLUME

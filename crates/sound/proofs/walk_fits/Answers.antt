@@ -2,7 +2,6 @@
 use mathlib.Core.Path.{sym, ap, ◌∙◌}
 use mathlib.Core.Bool.{Bool}
 use native.Mathlib.Omega.{arith}
-use borrow.Author.Tests.{not-true, not-false}
 use Rattle.model.specs.Bytes.{view, ◌and◌}
 use Rattle.model.specs.Map.{map_blocks, rest_clear}
 use Rattle.model.specs.Directory.{volume, map_place}
@@ -10,7 +9,6 @@ use Rattle.claims.specs.Claims.{Seen, claim}
 use Rattle.marks.specs.Marks.{marks}
 use Rattle.sound.specs.Work.{entry_work}
 use Rattle.sound.proofs.WorkLaws.{fits_not, fits_map}
-use borrow.Author.Rules.{rules}
 use Rattle.sound.proofs.walk_fits.Goals as goal
 
 pub returns-then-not-sound_entry : goal.returns-then-not-sound_entry

@@ -4,7 +4,6 @@ use Prim.Native.Nat.{◌+◌, ◌-◌}
 use native.Mathlib.Omega.{arith}
 use Rattle.model.specs.Bytes.{view}
 use Rattle.names.proofs.PartLaws.{part_run, slots_alike}
-use borrow.Author.Rules.{rules}
 use Rattle.twins.proofs.alike_at.Goals as goal
 
 pub returns : goal.returns

@@ -1,6 +1,5 @@
 -- `twins::bit` meets its contract: a bit of the hash, or one of the name's own.
 use mathlib.Core.Path.{◌∙◌}
-use borrow.Author.Rules.{rules}
 use Rattle.model.specs.Bytes.{view, from}
 use Rattle.twins.proofs.NameLaws.{bit_hashed, bit_own}
 use Rattle.twins.proofs.bit.Goals as goal

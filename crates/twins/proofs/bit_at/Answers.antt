@@ -1,6 +1,5 @@
 -- `twins::bit_at` meets its contract: a bit of the name at a place.
 use native.Mathlib.Omega.{arith}
-use borrow.Author.Rules.{rules}
 use Rattle.twins.proofs.bit_at.Goals as goal
 
 pub bit-requires : goal.bit-requires

@@ -1,5 +1,4 @@
 -- `twins::child_of` meets its contract: the bit says which list is read.
-use borrow.Author.Rules.{rules}
 use Rattle.twins.proofs.child_of.Goals as goal
 
 pub returns-then-bit : goal.returns-then-bit

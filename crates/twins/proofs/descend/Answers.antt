@@ -3,14 +3,14 @@
 use mathlib.Core.Path.{◌≡◌, refl, sym, ◌∙◌}
 use mathlib.Core.List.{List}
 use mathlib.Core.Bool.{Bool, true, false, false≢true}
-use Prim.Native.Nat.{ℕ, ◌+◌, ◌-◌, ◌<◌, ◌≤◌}
+use Prim.Native.Nat.{ℕ, ◌+◌, ◌<◌}
 use native.Mathlib.Numerals.{add-one}
 use native.Mathlib.Omega.{arith}
 use lib.ListN.{get_or}
 use Rattle.model.specs.Bytes.{Bytes, view}
 use Rattle.model.specs.Names.{alike}
 use Rattle.model.proofs.ByteLaws.{at_or_off}
-use Rattle.twins.specs.Twins.{key_of, child, walk, Alive, Tree, Lands}
+use Rattle.twins.specs.Twins.{key_of, child, walk, Tree, Lands}
 use Rattle.twins.proofs.TreeLaws.{none_before}
 use Rattle.twins.proofs.descend.Invariants.{On}
 use Rattle.twins.proofs.descend.Goals as goal

@@ -1,17 +1,13 @@
 -- `twins::descend` meets its contract. Each turn stands at the node to which so many bits lead, and no node on the way has the name.
 -- The measure is what is left of the nodes.
-use mathlib.Core.Path.{◌≡◌, refl, sym, ◌∙◌}
+use mathlib.Core.Path.{◌≡◌}
 use mathlib.Core.List.{List}
-use mathlib.Core.Bool.{Bool, true, false, false≢true}
-use Prim.Native.Nat.{ℕ, ◌+◌, ◌-◌, ◌<◌, ◌≤◌}
-use native.Mathlib.Numerals.{add-one}
-use native.Mathlib.Omega.{arith}
+use mathlib.Core.Bool.{false}
+use Prim.Native.Nat.{ℕ, ◌-◌, ◌<◌, ◌≤◌}
 use lib.ListN.{get_or}
 use Rattle.model.specs.Bytes.{Bytes, view}
 use Rattle.model.specs.Names.{alike}
-use Rattle.model.proofs.ByteLaws.{at_or_off}
-use Rattle.twins.specs.Twins.{key_of, child, walk, Alive, Tree, Lands}
-use Rattle.twins.proofs.TreeLaws.{none_before}
+use Rattle.twins.specs.Twins.{key_of, walk, Alive}
 use Rattle.twins.proofs.descend.Given as goal
 
 -- i bits of name k lead to a node, and none before it on the way has the name

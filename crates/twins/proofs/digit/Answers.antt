@@ -1,5 +1,4 @@
 -- `twins::digit` meets its contract. The length, then the name's bytes, then zeros.
-use borrow.Author.Rules.{rules}
 use native.Mathlib.Omega.{arith}
 use Rattle.model.specs.Bytes.{view}
 use Rattle.twins.proofs.NameLaws.{digit_first, digit_in, digit_past}

@@ -1,9 +1,6 @@
 -- `twins::hash` meets its contract. The first k digits are mixed after k turns.
-use mathlib.Core.Path.{◌≡◌, refl, ap, ◌∙◌}
+use mathlib.Core.Path.{◌≡◌}
 use Prim.Native.Nat.{◌-◌, ◌≤◌, ◌<◌}
-use native.Mathlib.Numerals.{add-one}
-use native.Mathlib.Omega.{arith}
-use borrow.Author.Rules.{rules}
 use Rattle.model.specs.Bytes.{view, from}
 use Rattle.twins.specs.Twins.{mixed}
 use Rattle.twins.proofs.hash.Given as goal

@@ -1,6 +1,5 @@
 -- `twins::hash_at` meets its contract: the hash of the name at a place.
 use native.Mathlib.Omega.{arith}
-use borrow.Author.Rules.{rules}
 use Rattle.twins.proofs.hash_at.Goals as goal
 
 pub hash-requires : goal.hash-requires

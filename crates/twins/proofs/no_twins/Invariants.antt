@@ -1,14 +1,10 @@
 -- `twins::no_twins` meets its contract. Each turn has the names before k in the tree, and no two of them alike.
 -- The measure is what is left of the names.
-use mathlib.Core.Path.{◌≡◌, refl, ◌∙◌}
+use mathlib.Core.Path.{◌≡◌}
 use Prim.Native.Nat.{◌-◌, ◌<◌, ◌≤◌}
-use native.Mathlib.Omega.{arith}
-use lib.ListN.{length, set, length-set}
-use lib.Seq.{get_or-set_same}
-use borrow.Author.Rules.{rules}
+use lib.ListN.{length}
 use Rattle.model.specs.Bytes.{view}
 use Rattle.twins.specs.Twins.{Tree, Apart}
-use Rattle.twins.proofs.TreeLaws.{tree_one, apart_one, tree_more, apart_more, some_twins, none_twins}
 use Rattle.twins.proofs.no_twins.Given as goal
 
 abbrev pub invariant-loop-k : goal.invariant-loop-k

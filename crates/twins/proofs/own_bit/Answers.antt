@@ -2,7 +2,6 @@
 use mathlib.Core.Path.{ap}
 use Prim.Native.Nat.{ℕ, ◌/◌, ◌%◌, ◌^◌}
 use lib.Dec.{eqb}
-use borrow.Author.Rules.{rules}
 use Rattle.twins.specs.Twins.{own_bit}
 use Rattle.twins.proofs.own_bit.Goals as goal
 

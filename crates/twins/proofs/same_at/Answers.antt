@@ -1,5 +1,4 @@
 -- `twins::same_at` meets its contract: the names at two places.
-use borrow.Author.Rules.{rules}
 use Rattle.twins.proofs.same_at.Goals as goal
 
 pub same_name-requires : goal.same_name-requires

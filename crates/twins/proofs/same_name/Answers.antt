@@ -1,5 +1,4 @@
 -- `twins::same_name` meets its contract: a last byte that differs, or all compared.
-use borrow.Author.Rules.{rules}
 use Rattle.model.specs.Bytes.{view}
 use Rattle.twins.proofs.NameLaws.{last_differs}
 use Rattle.twins.proofs.same_name.Goals as goal

@@ -1,7 +1,6 @@
 -- `write::is_too_far` meets its contract.
 use Rattle.write.proofs.RowLaws.{far_start, far_end, far_is}
 use native.Mathlib.Omega.{arith}
-use borrow.Author.Rules.{rules}
 use Rattle.write.proofs.is_too_far.Goals as goal
 
 pub returns-then-eof-position : goal.returns-then-eof-position

@@ -1,5 +1,5 @@
 -- `write::need` meets its contract: the need of the file blocks touched.
-use Prim.Native.Nat.{◌-◌, ◌/◌}
+use Prim.Native.Nat.{◌/◌}
 use mathlib.Core.Path.{ap, ◌∙◌}
 use Rattle.model.specs.Bytes.{view}
 use Rattle.model.specs.Kinds.{key_of}
@@ -11,7 +11,6 @@ use Rattle.opening.specs.Sorts.{height_of}
 use Rattle.held.proofs.HeldLaws.{held_fit, held_tall}
 use Rattle.write.proofs.WorkLaws.{goal_tall}
 use native.Mathlib.Omega.{arith}
-use borrow.Author.Rules.{rules}
 use Rattle.write.proofs.need.Goals as goal
 
 pub need-requires : goal.need-requires

@@ -15,7 +15,6 @@ use Rattle.directory.specs.Slots.{place_number}
 use Rattle.held.proofs.HeldLaws.{held_fit, held_tall, held_eof, held_slot}
 use Rattle.write.proofs.WorkLaws.{keys_enough, works}
 use native.Mathlib.Omega.{arith}
-use borrow.Author.Rules.{rules}
 use Rattle.write.proofs.put_data.Goals as goal
 
 pub overflow_add-together : goal.overflow_add-together

@@ -4,7 +4,6 @@ use lib.ListN.{length}
 use Rattle.model.specs.Bytes.{view}
 use Rattle.write.proofs.RowLaws.{write_refused, write_volume, write_entry}
 use native.Mathlib.Omega.{arith}
-use borrow.Author.Rules.{rules}
 use Rattle.write.proofs.write.Goals as goal
 
 pub write_entry-requires : goal.write_entry-requires

@@ -7,7 +7,6 @@ use Rattle.growth.proofs.Laws.{map_fits}
 use Rattle.directory.specs.Slots.{place_number}
 use Rattle.write.proofs.RowLaws.{near_is, told_held, number_folder, number_locked, number_far, number_nothing, number_full, number_none, place_no, place_nothing, place_done}
 use native.Mathlib.Omega.{arith}
-use borrow.Author.Rules.{rules}
 use Rattle.write.proofs.write_entry.Goals as goal
 
 pub returns-then-height_of-eq3 : goal.returns-then-height_of-eq3

@@ -5,7 +5,6 @@ use mathlib.Core.Path.{◌≡◌, sym, ◌∙◌}
 use Prim.Native.Nat.{◌≤◌, ◌+◌}
 use lib.ListN.{length}
 use borrow.Author.Tests.{eq-eqb, ne_eqb}
-use borrow.Author.Rules.{rules}
 use Rattle.model.specs.Bytes.{view, ◌and◌}
 use Rattle.names.specs.Steps.{step_end, proper_step}
 use Rattle.names.proofs.CursorLaws.{step_end_law, step_name, step_bad, step_after, step_fits}
