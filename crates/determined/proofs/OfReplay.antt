@@ -3,6 +3,10 @@ use Prim.Native.Nat.{ℕ}
 use mathlib.Core.Path.{◌≡◌, refl, sym, ap, ◌∙◌}
 use mathlib.Core.List.{List}
 use mathlib.Core.Bool.{Bool}
+use mir.Syntax.{Dict}
+use denote.RattleType.{RattleType}
+use denote.Param.Laws.{Laws}
+use Rattle.std.specs.declared.io.traits.Write.{Ghosts}
 use Rattle.model.specs.Bytes.{Bytes, view}
 use Rattle.ink.specs.Ink.{Sheet}
 use Rattle.ink.specs.declared.Ink.{Ink}
@@ -52,5 +56,7 @@ pub changes_one : Determined _ changes-kinds.ps changes-kinds.r changes-reads.Po
 changes_one κs a r₁ r₂ w₁ w₂ p q =
     leaves_same _ _ r₁ r₂ w₁.1.0 w₁.1.1.1.1.0 w₁.1.1.1.1.1.0 w₂.1.0 w₂.1.1.1.1.0 w₂.1.1.1.1.1.0 p q
 
-pub play_one : Determined _ play-kinds.ps play-kinds.r play-reads.Post Rooms (λ _ _ w. rooms (view w.1.0) (view w.1.1.0) (view w.1.1.1.0))
-play_one κs a r₁ r₂ w₁ w₂ p q = (refl, rooms_same (p.image ∙ sym q.image) (p.buffer ∙ sym q.buffer) (p.page ∙ sym q.page))
+-- whatever the lines are written to
+pub play_one : (W : RattleType) (laws : Laws W) (ghosts : Ghosts W.Denot) (dict : Dict)
+    → Determined _ (play-kinds.ps W laws) (play-kinds.r W laws) (play-reads.Post W laws ghosts dict) Rooms (λ _ _ w. rooms (view w.1.0) (view w.1.1.0) (view w.1.1.1.0))
+play_one W laws ghosts dict κs a r₁ r₂ w₁ w₂ p q = (refl, rooms_same (p.image ∙ sym q.image) (p.buffer ∙ sym q.buffer) (p.page ∙ sym q.page))
