@@ -133,15 +133,6 @@ def rename(text, names, fields, keep, code):
             start -= 1
         return bool(re.match(r"[A-Z]", s[start])) or s[start:at].count(".") == 1 and s[start:at - 1] in aliases(s)
 
-    def piece(line):
-        if code:
-            return line
-        at = line.find("--")
-        if at >= 0 and (at == 0 or line[at - 1].isspace()):
-            said = re.sub(r"`[^`]*`", lambda m: NAME.sub(lambda k: names.get(k[0], k[0]), m[0]), line[at:])
-            return line[:at], said
-        return line
-
     out = []
     pos = 0
     cuts = []
@@ -195,8 +186,6 @@ def main():
         new = rename(text, both, field_to, keep, path.endswith(".rt"))
         if new != text:
             before = set(NAME.findall(text))
-            for w in sorted(set(NAME.findall(new)) - before):
-                pass
             made = {both[w] for w in before if w in both and w not in keep}
             for w in sorted(made & before):
                 print("already in", path, ":", w)

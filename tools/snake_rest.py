@@ -10,6 +10,9 @@ below-it child-at clear-rest data-apart data-at data-block-one data-hole data-in
 long-blocks need-is new-path noDirectory noVolume off-e off-t pathOf rest-by up-w within-true
 """.split()
 
+# Constructors of Led (Laws/Lookup), which these names would fall together with.
+LED = {"no_volume": "no_volume_led", "no_directory": "no_directory_led"}
+
 
 def snake(name):
     return re.sub(r"(?<=[a-z])([A-Z])", lambda m: "_" + m[1].lower(), name).replace("-", "_")
@@ -21,7 +24,11 @@ def main():
     files = glob.glob("crates/*/specs/**/*.antt", recursive=True) + glob.glob("crates/*/proofs/**/*.antt", recursive=True)
     for path in sorted(files + glob.glob("crates/*/must-fail/*.edit") + glob.glob("edits/*/*.edit")):
         text = open(path, encoding="utf-8").read()
-        new = old.sub(lambda m: snake(m[0]), text)
+        if path.endswith("model/proofs/Laws/Lookup.antt"):
+            new = re.sub(r"(?<![\w.'])(?:no_volume|no_directory)(?![\w'])", lambda m: LED[m[0]], text)
+        else:
+            new = text
+        new = old.sub(lambda m: snake(m[0]), new)
         if new != text:
             open(path, "w", encoding="utf-8").write(new)
             print(path)

@@ -8,7 +8,7 @@ use native.Mathlib.Omega.{arith}
 use borrow.Author.Tests.{eq-eqb, ne_eqb, eqb-true}
 use Rattle.model.specs.Bytes.{Bytes, ◌or◌}
 use Rattle.model.specs.Names.{proper_path}
-use Rattle.model.specs.Directory.{at, volume, directory_type, Target, noVolume, noDirectory, missing, there}
+use Rattle.model.specs.Directory.{at, volume, directory_type, Target, no_volume, no_directory, missing, there}
 use Rattle.model.specs.Refusals.{refusal_number, Row, row, first}
 use Rattle.model.specs.Calls.{target, not_prodos, not_sound, bad_path, not_volume, not_directory, is_no_volume, is_no_directory, is_there}
 use Rattle.model.specs.Create.{Wanted, directory_kind, wrong_type}
@@ -64,8 +64,8 @@ housed_from n looked.Volume = housed.Refused Duplicate
 
 pub housed_from_law : (n : ℕ) (v : Bytes) (t : Target) → housed_from n (looked_as v t) ≡ housed_at n v t
 unfolding housed_at
-housed_from_law n v noVolume = refl
-housed_from_law n v noDirectory = refl
+housed_from_law n v no_volume = refl
+housed_from_law n v no_directory = refl
 housed_from_law n v (missing d) = refl
 housed_from_law n v (there d s) = go (eqb s volume)
   where
@@ -92,8 +92,8 @@ housed_or (housed.Refused r) x = refusal_number r
 target_first : (n : ℕ) (v : Bytes) (t : Target) (rest : List Row)
     → first (not_volume t ∷ not_directory t ∷ row (is_there t) 0x47 ∷ rest) ≡ housed_or (housed_at n v t) (first rest)
 unfolding first housed_at is_no_volume is_no_directory is_there
-target_first n v noVolume rest = refl
-target_first n v noDirectory rest = refl
+target_first n v no_volume rest = refl
+target_first n v no_directory rest = refl
 target_first n v (missing d) rest = refl
 target_first n v (there d s) rest = refl
 
@@ -141,8 +141,8 @@ housed_in len v p k kind ftype n h e = on (volume_in len v) refl e
 
     led : (m : ℕ) → Fits len v m → proper_path p k ≡ true → (eqb kind 1 or eqb kind directory_kind) ≡ true → (t : Target) → target v p k ≡ t
         → housed_at m v t ≡ housed.In n h → Home-of len v p k kind n h
-    led m f a b noVolume t q = clash q
-    led m f a b noDirectory t q = clash q
+    led m f a b no_volume t q = clash q
+    led m f a b no_directory t q = clash q
     led m f a b (there d s) t q = clash q
     led m f a b (missing d) t q =
         let c : m ≡ n = cc in

@@ -2,7 +2,7 @@
 use Rattle.std.specs.Prelude.{ℕ, Bool, true, false, not, eqb}
 use Rattle.model.specs.Bytes.{Bytes, ◌or◌}
 use Rattle.model.specs.Names.{proper_path}
-use Rattle.model.specs.Directory.{directory_type, Target, noVolume, noDirectory, missing, there}
+use Rattle.model.specs.Directory.{directory_type, Target, no_volume, no_directory, missing, there}
 use Rattle.model.specs.Calls.{target}
 use Rattle.model.specs.Create.{directory_kind}
 use Rattle.model.specs.declared.Refusal.TheVariants.{BadPath, BadKind, BadType, NoVolume, NoDirectory, Duplicate}
@@ -18,8 +18,8 @@ unfoldable pub wrong_for : ℕ → ℕ → Bool
 wrong_for kind ftype = elim (eqb kind directory_kind) [ true ↦ not (eqb ftype directory_type) | false ↦ eqb ftype directory_type ]
 
 unfoldable pub housed_at : ℕ → Bytes → Target → Housed
-housed_at n v noVolume = housed.Refused NoVolume
-housed_at n v noDirectory = housed.Refused NoDirectory
+housed_at n v no_volume = housed.Refused NoVolume
+housed_at n v no_directory = housed.Refused NoDirectory
 housed_at n v (missing d) = housed.In n (home_of v d)
 housed_at n v (there d s) = housed.Refused Duplicate
 

@@ -11,7 +11,7 @@ use native.Mathlib.Omega.{arith}
 use borrow.Author.Tests.{eqb-true, eqb-false}
 use Rattle.model.specs.Bytes.{Bytes, run}
 use Rattle.model.specs.Names.{Part, same_name}
-use Rattle.model.specs.Directory.{at, block_of, volume, sort, is_active, is_directory, key, used, slots, kids, vacant, seek, Target, noVolume, noDirectory, missing, there, last, along, lookup}
+use Rattle.model.specs.Directory.{at, block_of, volume, sort, is_active, is_directory, key, used, slots, kids, vacant, seek, Target, no_volume, no_directory, missing, there, last, along, lookup}
 use Rattle.model.specs.Calls.{is_there, spot}
 use Rattle.model.specs.declared.Entry.{Entry}
 use Rattle.model.specs.declared.Place.{Place}
@@ -95,15 +95,15 @@ module _ (v : Bytes) (d s : ℕ) where
 
 module _ (v : Bytes) where
   pub looked_there : (t : Target) (h : Home) (l : Place) (e : Entry) → looked_as v t ≡ looked.There h l e → Stands v t h l e
-  looked_there noVolume h l e q = never (cc)
-  looked_there noDirectory h l e q = never (cc)
+  looked_there no_volume h l e q = never (cc)
+  looked_there no_directory h l e q = never (cc)
   looked_there (missing d) h l e q = never (cc)
   looked_there (there d s) h l e q = stands_by v d s (eqb s volume) refl h l e q
 
   pub looked_missing : (t : Target) (h : Home) → looked_as v t ≡ looked.Missing h
       → (t ≡ missing (place_number h.place)) × (h ≡ home_of v (place_number h.place))
-  looked_missing noVolume h q = never (cc)
-  looked_missing noDirectory h q = never (cc)
+  looked_missing no_volume h q = never (cc)
+  looked_missing no_directory h q = never (cc)
   looked_missing (missing d) h q =
       let x : home_of v d ≡ h = cc in
       let i : d ≡ place_number h.place = place_is d h.place (ap (λ w. w.place) x) in
@@ -112,20 +112,20 @@ module _ (v : Bytes) where
 
   pub looked_volume : (t : Target) → looked_as v t ≡ looked.Volume → (is_there t ≡ true) × (spot t ≡ volume)
   unfolding is_there spot
-  looked_volume noVolume q = never (cc)
-  looked_volume noDirectory q = never (cc)
+  looked_volume no_volume q = never (cc)
+  looked_volume no_directory q = never (cc)
   looked_volume (missing d) q = never (cc)
   looked_volume (there d s) q = (refl, volume_by v d s (eqb s volume) refl q)
 
-  pub looked_no_directory : (t : Target) → looked_as v t ≡ looked.NoDirectory → t ≡ noDirectory
-  looked_no_directory noVolume q = never (cc)
-  looked_no_directory noDirectory q = refl
+  pub looked_no_directory : (t : Target) → looked_as v t ≡ looked.NoDirectory → t ≡ no_directory
+  looked_no_directory no_volume q = never (cc)
+  looked_no_directory no_directory q = refl
   looked_no_directory (missing d) q = never (cc)
   looked_no_directory (there d s) q = absurd ((there_not v d s (eqb s volume)).1 q)
 
-  pub looked_no_volume : (t : Target) → looked_as v t ≡ looked.NoVolume → t ≡ noVolume
-  looked_no_volume noVolume q = refl
-  looked_no_volume noDirectory q = never (cc)
+  pub looked_no_volume : (t : Target) → looked_as v t ≡ looked.NoVolume → t ≡ no_volume
+  looked_no_volume no_volume q = refl
+  looked_no_volume no_directory q = never (cc)
   looked_no_volume (missing d) q = never (cc)
   looked_no_volume (there d s) q = absurd ((there_not v d s (eqb s volume)).0 q)
 
@@ -182,7 +182,7 @@ pub record Lands (v : Bytes) (t : Target) : Type 0 where
   pub there_home : (d s : ℕ) → t ≡ there d s → Reached v d
   pub there_entry : (d s : ℕ) → t ≡ there d s → (s ≡ volume → ⊥) → Memᴰ s (kids v d)
 
-lands_nowhere : (v : Bytes) → Lands v noVolume × Lands v noDirectory
+lands_nowhere : (v : Bytes) → Lands v no_volume × Lands v no_directory
 lands_nowhere v = (
   record { missing_home = λ d e. never (cc); there_home = λ d s e. never (cc); there_entry = λ d s e n. never (cc) },
   record { missing_home = λ d e. never (cc); there_home = λ d s e. never (cc); there_entry = λ d s e n. never (cc) },
@@ -213,14 +213,14 @@ module _ (v p : Bytes) where
 
   module _ (d : ℕ) (r : Reached v d) (x y : Part) (ys : List Part) (on : (s : ℕ) → Reached v s → Lands v (along v p s (y ∷ ys))) where
     lands_entry : (s : ℕ) → seek v p x (kids v d) ≡ some s → (b : Bool) → is_directory (sort v s) ≡ b
-        → Lands v (elim b [ true ↦ along v p s (y ∷ ys) | false ↦ noDirectory ])
+        → Lands v (elim b [ true ↦ along v p s (y ∷ ys) | false ↦ no_directory ])
     lands_entry s e true i = on s (below r (seek_some v p x (kids v d) s e).0 (directory_is (sort v s) i))
     lands_entry s e false i = (lands_nowhere v).1
 
     lands_beyond : (o : Option ℕ) → seek v p x (kids v d) ≡ o
         → Lands v (elim o [
-          | none ↦ noDirectory
-          | some s ↦ elim (is_directory (sort v s)) [ true ↦ along v p s (y ∷ ys) | false ↦ noDirectory ]
+          | none ↦ no_directory
+          | some s ↦ elim (is_directory (sort v s)) [ true ↦ along v p s (y ∷ ys) | false ↦ no_directory ]
         ])
     lands_beyond none e = (lands_nowhere v).1
     lands_beyond (some s) e = lands_entry s e (is_directory (sort v s)) refl
@@ -235,7 +235,7 @@ module _ (v p : Bytes) where
   below_volume [] = lands_there v volume volume top (λ n. absurd (n refl))
   below_volume (x ∷ xs) = along_lands x xs volume top
 
-  first_lands : (b : Bool) (xs : List Part) → Lands v (elim b [ true ↦ along v p volume xs | false ↦ noVolume ])
+  first_lands : (b : Bool) (xs : List Part) → Lands v (elim b [ true ↦ along v p volume xs | false ↦ no_volume ])
   first_lands true xs = below_volume xs
   first_lands false xs = (lands_nowhere v).0
 

@@ -9,14 +9,14 @@ use native.Mathlib.Omega.{arith}
 use borrow.Author.Tests.{ne_eqb}
 use Rattle.model.specs.Bytes.{Bytes, view, ◌and◌}
 use Rattle.model.specs.Names.{Part, part, same_name, proper_parts, parts, proper_path}
-use Rattle.model.specs.Directory.{at, volume, Sort, inactive, directory, improper, file, sort, is_active, is_directory, field, key, used, chain, slots_below, kids, seek, Target, noVolume, noDirectory, last, along, lookup}
+use Rattle.model.specs.Directory.{at, volume, Sort, inactive, directory, improper, file, sort, is_active, is_directory, field, key, used, chain, slots_below, kids, seek, Target, no_volume, no_directory, last, along, lookup}
 use Rattle.model.specs.declared.Place.{Place}
 use Rattle.model.specs.declared.Found.{Found}
 use Rattle.names.specs.declared.Cursor.{Cursor}
 use Rattle.names.specs.Steps.{parts_left, step_at, step_end}
 use Rattle.names.specs.declared.Step.{Step}
 use Rattle.names.specs.declared.Step.TheVariants.{Name, End, Bad}
-use Rattle.names.proofs.Laws.{and_left, and_right, within-true}
+use Rattle.names.proofs.Laws.{and_left, and_right, within_true}
 use Rattle.names.proofs.CursorLaws.{Stepped, stepped_bounds, stepped_left, stepped_proper, left_done, left_more, left_name, left_start}
 use Rattle.names.proofs.PartLaws.{same_at}
 use Rattle.directory.specs.Slots.{place_number, place_of, kind_of, entry_of}
@@ -100,8 +100,8 @@ module _ (v p : Bytes) (d : ℕ) (r : Reached v d) (good : Each (Readable v) (li
   module _ (y : Part) (ys : List Part) where
     abbrev beyond : Option ℕ → Target
     beyond o = elim o [
-      | none ↦ noDirectory
-      | some s ↦ elim (is_directory (sort v s)) [ true ↦ along v p s (y ∷ ys) | false ↦ noDirectory ]
+      | none ↦ no_directory
+      | some s ↦ elim (is_directory (sort v s)) [ true ↦ along v p s (y ∷ ys) | false ↦ no_directory ]
     ]
 
     along_beyond : along v p d (x ∷ y ∷ ys) ≡ beyond sought
@@ -114,11 +114,11 @@ module _ (v p : Bytes) (d : ℕ) (r : Reached v d) (good : Each (Readable v) (li
         ap (λ k. inner_as k (place_of s) (entry_of v (at s)).used) (entry_kind v s n)
         ∙ ap (inner_as (kind_of (sort v s) (key v s)) (place_of s)) (entry_used v s n)
 
-    stop_by : (o : Option ℕ) → sought ≡ o → inner_of (found_at v o) ≡ inner.Other → beyond o ≡ noDirectory
+    stop_by : (o : Option ℕ) → sought ≡ o → inner_of (found_at v o) ≡ inner.Other → beyond o ≡ no_directory
     stop_by none e h = refl
     stop_by (some s) e h = rw (inner_other (sort v s) (key v s) (used v s) (place_of s) (sym (found_kind s e) ∙ h), beyond)
 
-    pub name_stops : inner_of (found_at v sought) ≡ inner.Other → along v p d (x ∷ y ∷ ys) ≡ noDirectory
+    pub name_stops : inner_of (found_at v sought) ≡ inner.Other → along v p d (x ∷ y ∷ ys) ≡ no_directory
     name_stops h = along_beyond ∙ stop_by sought refl h
 
     -- the home of the names that follow
@@ -238,7 +238,7 @@ sane_blocks n v sane = (sane volume top).inside 2 (mathlib.Core.List.Memᴰ.head
 
 pub path_before : (xs : List ℕ) → proper_path (view xs) (length xs) ≡ true → 0 < length xs
 unfolding proper_path
-path_before xs h = (within-true 1 64 (length xs) (and_left _ _ h)).0
+path_before xs h = (within_true 1 64 (length xs) (and_left _ _ h)).0
 
 pub path_proper : (xs : List ℕ) → proper_path (view xs) (length xs) ≡ true → proper_parts (view xs) (parts_left (view xs) (length xs) 0) ≡ true
 unfolding proper_path
@@ -259,7 +259,7 @@ module _ (img xs : List ℕ) (s e : ℕ) (c : Cursor) (q : Stepped (view xs) (le
       ∙ ap (λ y. same_name (view img) (at volume) (view y) (part 0 (length y))) h
       ∙ same_at (view img) (at volume) xs s e name_bounds.0 name_bounds.1
 
-  pub lookup_other : same_name (view img) (at volume) (view xs) (part s (e - s)) ≡ false → lookup (view img) (view xs) (parts (view xs) (length xs)) ≡ noVolume
+  pub lookup_other : same_name (view img) (at volume) (view xs) (part s (e - s)) ≡ false → lookup (view img) (view xs) (parts (view xs) (length xs)) ≡ no_volume
   unfolding lookup
   lookup_other h = rw (first_parts, h, lookup)
 

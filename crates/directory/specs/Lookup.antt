@@ -2,7 +2,7 @@
 use Rattle.std.specs.Prelude.{ℕ, ◌≡◌, true, false, eqb}
 use mathlib.Core.List.{Memᴰ}
 use Rattle.model.specs.Bytes.{Bytes}
-use Rattle.model.specs.Directory.{at, volume, directory, sort, key, used, kids, Target, noVolume, noDirectory, missing, there}
+use Rattle.model.specs.Directory.{at, volume, directory, sort, key, used, kids, Target, no_volume, no_directory, missing, there}
 use Rattle.model.specs.declared.Kind.{Kind}
 use Rattle.model.specs.declared.Kind.TheVariants.{Seedling, Sapling, Tree, Directory}
 use Rattle.model.specs.declared.Place.{Place}
@@ -45,8 +45,8 @@ inner_of found.Missing = inner.Other
 
 -- the answer for a target, with what is known of the directory and of the entry
 abbrev pub looked_as : Bytes → Target → Looked
-looked_as v noVolume = looked.NoVolume
-looked_as v noDirectory = looked.NoDirectory
+looked_as v no_volume = looked.NoVolume
+looked_as v no_directory = looked.NoDirectory
 looked_as v (missing d) = looked.Missing (home_of v d)
 looked_as v (there d s) =
     elim (eqb s volume) [ true ↦ looked.Volume | false ↦ looked.There (home_of v d) (place_of s) (entry_of v (at s)) ]

@@ -7,7 +7,7 @@ use mathlib.Core.Bool.{Bool, true, false}
 use native.Mathlib.Omega.{arith}
 use Rattle.model.specs.Bytes.{Bytes, ◌and◌}
 use Rattle.model.specs.Names.{Part, same_name}
-use Rattle.model.specs.Directory.{volume, kids, at, directory, sort, is_active, is_directory, seek, last, along, lookup, Target, noVolume, noDirectory}
+use Rattle.model.specs.Directory.{volume, kids, at, directory, sort, is_active, is_directory, seek, last, along, lookup, Target, no_volume, no_directory}
 use Rattle.model.specs.Sound.{sound}
 use Rattle.model.proofs.Laws.Lookup.{directory_is}
 use Rattle.claims.proofs.TestLaws.{and_true}
@@ -53,11 +53,11 @@ along_led n v p l e d x [] h m o = go (seek v p x (kids v d)) refl
     go (some s) q = led_there m o (met_kid n h m o (seek_among v p x (kids v d) s q)).1 (seek_active v p x (kids v d) s q)
 along_led n v p l e d x (y ∷ r) h m o = go (seek v p x (kids v d)) refl (λ k s. along_led n v p k d s y r h)
   where
-    step : (s : ℕ) → Among s (kids v d) → ((k s : ℕ) → Met v k d s → sort v s ≡ directory → Led v (along v p s (y ∷ r))) → (b : Bool) → is_directory (sort v s) ≡ b → Led v (elim b as (λ _. Target) [ true ↦ along v p s (y ∷ r) | false ↦ noDirectory ])
+    step : (s : ℕ) → Among s (kids v d) → ((k s : ℕ) → Met v k d s → sort v s ≡ directory → Led v (along v p s (y ∷ r))) → (b : Bool) → is_directory (sort v s) ≡ b → Led v (elim b as (λ _. Target) [ true ↦ along v p s (y ∷ r) | false ↦ no_directory ])
     step s a f true q = let k = met_kid n h m o a in f k.0 s k.1 (directory_is (sort v s) q)
     step s a f false q = led_astray
 
-    go : (t : Option ℕ) → seek v p x (kids v d) ≡ t → ((k s : ℕ) → Met v k d s → sort v s ≡ directory → Led v (along v p s (y ∷ r))) → Led v (elim t as (λ _. Target) [ none ↦ noDirectory | some s ↦ elim (is_directory (sort v s)) [ true ↦ along v p s (y ∷ r) | false ↦ noDirectory ] ])
+    go : (t : Option ℕ) → seek v p x (kids v d) ≡ t → ((k s : ℕ) → Met v k d s → sort v s ≡ directory → Led v (along v p s (y ∷ r))) → Led v (elim t as (λ _. Target) [ none ↦ no_directory | some s ↦ elim (is_directory (sort v s)) [ true ↦ along v p s (y ∷ r) | false ↦ no_directory ] ])
     go none q f = led_astray
     go (some s) q f = step s (seek_among v p x (kids v d) s q) f (is_directory (sort v s)) refl
 
@@ -70,6 +70,6 @@ lookup_led n v p (x ∷ xs) h = go (same_name v (at volume) p x) xs
     rest [] = led_there top (volume_directory v) top (rw (volume_directory v) refl)
     rest (y ∷ ys) = along_led n v p _ _ volume y ys h top (volume_directory v)
 
-    go : (b : Bool) (xs : List Part) → Led v (elim b as (λ _. Target) [ true ↦ along v p volume xs | false ↦ noVolume ])
+    go : (b : Bool) (xs : List Part) → Led v (elim b as (λ _. Target) [ true ↦ along v p volume xs | false ↦ no_volume ])
     go true xs = rest xs
     go false xs = led_nowhere

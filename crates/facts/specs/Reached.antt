@@ -1,7 +1,7 @@
 -- The slots that the walk of a volume meets, as a relation, and lists of blocks that lie on the volume.
 use Rattle.std.specs.Prelude.{ℕ, zero, suc, ◌<◌, List, [], ◌∷◌, true, ◌≡◌}
 use Rattle.model.specs.Bytes.{Bytes}
-use Rattle.model.specs.Directory.{volume, kids, directory, sort, is_active, Target, noVolume, noDirectory, missing, there}
+use Rattle.model.specs.Directory.{volume, kids, directory, sort, is_active, Target, no_volume, no_directory, missing, there}
 use Rattle.model.specs.File.{pointer}
 use Rattle.model.specs.Walk.{level_most}
 
@@ -27,7 +27,7 @@ Deep n v (suc h) k = (k < n) × ((i : ℕ) → i < 256 → (pointer v k i ≡ 0 
 
 -- what a path leads to on a sound volume: a directory that the walk meets, and an entry of it
 pub data Led (v : Bytes) : Target → Type 0 where
-  led_nowhere : Led v noVolume
-  led_astray : Led v noDirectory
+  led_nowhere : Led v no_volume
+  led_astray : Led v no_directory
   led_missing : {l e d : ℕ} → Met v l e d → sort v d ≡ directory → Led v (missing d)
   led_there : {l k e d s : ℕ} → Met v k e d → sort v d ≡ directory → Met v l d s → is_active (sort v s) ≡ true → Led v (there d s)

@@ -19,7 +19,7 @@ use Rattle.model.specs.declared.Refusal.TheVariants.{NotProdos, BadPath}
 use Rattle.model.specs.declared.Answer.TheVariants as answer
 use Rattle.model.proofs.RefusalLaws.{first_applies, first_passes}
 use Rattle.model.proofs.BitLaws.{fresh_yes, fresh_no}
-use Rattle.names.proofs.Laws.{and_left, and_right, within-true}
+use Rattle.names.proofs.Laws.{and_left, and_right, within_true}
 use Rattle.entries.proofs.DoesLaws.{does_refused, does_done}
 
 -- $52, test by test
@@ -46,7 +46,7 @@ module _ (len : ℕ) where
   pub whole_facts : whole_blocks len ≡ true → (len % 512 ≡ 0) × (16 ≤ len / 512) × (len / 512 ≤ 65535)
   unfolding whole_blocks
   whole_facts e =
-      let w = within-true 16 65535 (len / 512) (and_right _ _ e) in
+      let w = within_true 16 65535 (len / 512) (and_right _ _ e) in
       (eqb-true (len % 512) 0 (and_left _ _ e), w.0, w.1)
 
 -- what bit i counts

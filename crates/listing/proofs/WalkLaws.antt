@@ -22,7 +22,7 @@ use Rattle.facts.proofs.BlockLaws.{met_directory}
 use Rattle.facts.proofs.LookupLaws.{volume_directory}
 use Rattle.facts.proofs.SlotLaws.{kid_entry}
 use Rattle.directory.specs.Search.{Each, slots_from, listed}
-use Rattle.model.proofs.Laws.Keep.{sort_at, field_at as field-by}
+use Rattle.model.proofs.Laws.Keep.{sort_at, field_at as field_by}
 use Rattle.directory.proofs.SlotLaws.{sort_improper}
 use Rattle.directory.proofs.SearchLaws.{rest, rest_more, slots_more, each_head, each_tail, each_front, each_back}
 use Rattle.listing.specs.Walked.{line_of, walked, block_count, Whole, Listed, Chained}
@@ -95,7 +95,7 @@ module _ (xs : List ℕ) (p : List ℕ) (s a k : ℕ) (entry : s ≡ volume → 
   type_byte = view_read xs a k 0x10 (omega arith) ∙ ap (λ b. view xs (b + 0x10)) start ∙ rw (ne_eqb s volume entry, ftype)
 
   used_word : word (view (take k (drop a xs))) 0x13 ≡ used (view xs) s
-  used_word = word_part xs a k 0x13 (omega arith) ∙ ap (λ b. word (view xs) (b + 0x13)) start ∙ sym (field-by (view xs) s 0x13 4 entry)
+  used_word = word_part xs a k 0x13 (omega arith) ∙ ap (λ b. word (view xs) (b + 0x13)) start ∙ sym (field_by (view xs) s 0x13 4 entry)
 
   eof_long : long (view (take k (drop a xs))) 0x15 ≡ eof (view xs) s
   unfolding eof
@@ -148,9 +148,9 @@ module _ (xs : List ℕ) (p : List ℕ) (s a k : ℕ) (entry : s ≡ volume → 
   node_text b u h g e f =
       let o = sort_directory (view xs) s entry h in
       let n : suc (l - 1) ≡ l = omega arith in
-      let below-it : listed (view xs) b u ≡ kids (view xs) s = rw (o, e, f) in
+      let below_it : listed (view xs) b u ≡ kids (view xs) s = rw (o, e, f) in
       ap (λ t. t ++ walked (view xs) (l - 1) q (listed (view xs) b u)) (lent_line xs p s a k entry start size (suc (l - 1)) q (rw o) path)
-      ∙ ap (λ t. line (view xs) (visit (suc (l - 1)) p s) ++ walked (view xs) (l - 1) q t) below-it
+      ∙ ap (λ t. line (view xs) (visit (suc (l - 1)) p s) ++ walked (view xs) (l - 1) q t) below_it
       ∙ ap (λ t. line (view xs) (visit (suc (l - 1)) p s) ++ walked (view xs) (l - 1) t (kids (view xs) s)) path
       ∙ sym (walked_node (view xs) (l - 1) p s)
       ∙ ap (λ j. walked (view xs) j p (s ∷ [])) n
@@ -236,7 +236,7 @@ module _ (img : List ℕ) (l s a : ℕ) (whole : Whole img) (w : Listed (view im
   path_at p q e = e ∙ ap (λ b. p ++ (slash ∷ text (view img) (b + 1) (name_size (view img) b))) start
 
   field_at : (o r x : ℕ) → x ≡ word (view img) (a + o) → x ≡ field (view img) s o r
-  field_at o r x e = e ∙ ap (λ b. word (view img) (b + o)) start ∙ sym (field-by (view img) s o r w.entry)
+  field_at o r x e = e ∙ ap (λ b. word (view img) (b + o)) start ∙ sym (field_by (view img) s o r w.entry)
 
   pub slot_few : s / 13 < block_count img → s / 13 < 65536
   slot_few h = omega (arith, (sound_facts (block_count img) (view img) whole.safe).most)

@@ -155,11 +155,11 @@ free_same m v w b e = rw e refl
 
 -- Two maps that differ in the byte of block y: there the bits of w are those of v, and d more at y's.
 module _ (m : ℕ) (v w : Bytes) (y d : ℕ) (b : ℕ) where
-  pub free-flip
+  pub free_flip
       : (map_at m b ≡ map_at m y → bit (w (map_at m y)) (b % 8) ≡ bit (v (map_at m y)) (b % 8) + is (y % 8) (b % 8) * d)
       → ((map_at m b ≡ map_at m y → ⊥) → w (map_at m b) ≡ v (map_at m b)) → free m w b ≡ free m v b + is y b * d
   unfolding free
-  free-flip law out = go (eqb (b / 8) (y / 8)) refl
+  free_flip law out = go (eqb (b / 8) (y / 8)) refl
     where
       go : (t : Bool) → eqb (b / 8) (y / 8) ≡ t → bit (w (map_at m b)) (b % 8) ≡ bit (v (map_at m b)) (b % 8) + is y b * d
       go true e =
@@ -182,7 +182,7 @@ given_at m v y = put_at v (map_at m y) _
 pub given_free : (m : ℕ) (v : Bytes) (y b : ℕ) → Octets v → free m (given m v y) b ≡ free m v b + is y b * (1 - free m v y)
 unfolding free
 given_free m v y b o =
-    free-flip m v (given m v y) y (1 - free m v y) b
+    free_flip m v (given m v y) y (1 - free m v y) b
     (λ a. rw (given_at m v y) (bit_set (v (map_at m y)) (y % 8) (b % 8) (o (map_at m y)) (omega arith) (omega arith)))
     (given_out m v y (map_at m b))
 
@@ -209,7 +209,7 @@ pub taken_free : (m : ℕ) (v : Bytes) (z b : ℕ) → Octets v → (z * 512 ≤
     → free m (taken m v z) b + is z b * free m v z ≡ free m v b
 unfolding free
 taken_free m v z b o h =
-    sym (free-flip m (taken m v z) v z (free m v z) b
+    sym (free_flip m (taken m v z) v z (free m v z) b
     (λ a. rw (taken_at m v z (rw a at h)) (sym (bit_clear (v (map_at m z)) (z % 8) (b % 8) (o (map_at m z)) (omega arith) (omega arith))))
     (λ k. sym (taken_out m v z (map_at m b) h k)))
 
@@ -555,11 +555,11 @@ fresh_room a n m v f = upto n (omega arith)
 
 -- The bits past the last block.
 module _ (m : ℕ) (v : Bytes) (n : ℕ) where
-  pub rest-by
+  pub rest_by
       : ((n % 8 ≡ 0 → ⊥) → v (map_at m n) % 2 ^ (8 - n % 8) ≡ 0)
       → ((j : ℕ) → (n + 7) / 8 ≤ j → j < map_blocks n * 512 → v (m * 512 + j) ≡ 0) → rest_clear m v n ≡ true
   unfolding rest_clear ◌and◌ ◌or◌
-  rest-by low tail = rw (one, zero_all v (m * 512 + (n + 7) / 8) (map_blocks n * 512 - (n + 7) / 8) all_of) refl
+  rest_by low tail = rw (one, zero_all v (m * 512 + (n + 7) / 8) (map_blocks n * 512 - (n + 7) / 8) all_of) refl
     where
       one : (eqb (n % 8) 0 or eqb (v (map_at m n) % 2 ^ (8 - n % 8)) 0) ≡ true
       one = at_or_off (n % 8) 0 (λ e. rw (eq-eqb (n % 8) 0 e) refl) (λ h. rw (ne_eqb (n % 8) 0 h, low h) refl)
@@ -583,47 +583,47 @@ pub rest_same : (m : ℕ) (v w : Bytes) (n : ℕ) → ((j : ℕ) → n / 8 ≤ j
     → rest_clear m v n ≡ true → rest_clear m w n ≡ true
 unfolding map_at map_blocks
 rest_same m v w n f e =
-    rest-by m w n (λ h. rw (f (n / 8) (omega arith) (omega arith)) (rest_low m v n e h))
+    rest_by m w n (λ h. rw (f (n / 8) (omega arith) (omega arith)) (rest_low m v n e h))
     (λ j h l. f j (omega arith) l ∙ rest_tail m v n e j h l)
 
 pub same_rest : (m n : ℕ) (v w : Bytes) → MapSame m n v w → rest_clear m v n ≡ true → rest_clear m w n ≡ true
 same_rest m n v w same e = rest_same m v w n (λ j h l. same (m * 512 + j) (omega arith) (omega arith)) e
 
 -- a block of the volume given back or taken
-module _ (m : ℕ) (v : Bytes) (y n : ℕ) (octets : Octets v) (low : y < n) (clear-rest : rest_clear m v n ≡ true) where
+module _ (m : ℕ) (v : Bytes) (y n : ℕ) (octets : Octets v) (low : y < n) (clear_rest : rest_clear m v n ≡ true) where
   after_y : (j : ℕ) → (n + 7) / 8 ≤ j → m * 512 + j ≡ map_at m y → ⊥
   unfolding map_at
   after_y j h e = omega arith
 
   pub rest_given : rest_clear m (given m v y) n ≡ true
   rest_given =
-      rest-by m (given m v y) n
-      (λ h. at_or_off (map_at m n) (map_at m y) (same h) (λ k. rw (given_out m v y (map_at m n) k) (rest_low m v n clear-rest h)))
-      (λ j h l. given_out m v y (m * 512 + j) (after_y j h) ∙ rest_tail m v n clear-rest j h l)
+      rest_by m (given m v y) n
+      (λ h. at_or_off (map_at m n) (map_at m y) (same h) (λ k. rw (given_out m v y (map_at m n) k) (rest_low m v n clear_rest h)))
+      (λ j h l. given_out m v y (m * 512 + j) (after_y j h) ∙ rest_tail m v n clear_rest j h l)
     where
       same : (n % 8 ≡ 0 → ⊥) → map_at m n ≡ map_at m y → given m v y (map_at m n) % 2 ^ (8 - n % 8) ≡ 0
       same h a =
           let q = map_at_inj m n y a in
           rw (a, given_at m v y, set_low (v (map_at m y)) (y % 8) (n % 8) (octets (map_at m y)) (omega arith) (omega arith))
-          (rw a at (rest_low m v n clear-rest h))
+          (rw a at (rest_low m v n clear_rest h))
 
   pub rest_taken : rest_clear m (taken m v y) n ≡ true
   rest_taken =
-      rest-by m (taken m v y) n
+      rest_by m (taken m v y) n
       (λ h. in_or_out (y * 512) 512 (map_at m n) (λ g l. rw (taken_in m v y (map_at m n) g l) (zero-mod (2 ^ (8 - n % 8))))
-      (λ o. at_or_off (map_at m n) (map_at m y) (same h o) (λ k. rw (taken_out m v y (map_at m n) o k) (rest_low m v n clear-rest h))))
+      (λ o. at_or_off (map_at m n) (map_at m y) (same h o) (λ k. rw (taken_out m v y (map_at m n) o k) (rest_low m v n clear_rest h))))
       (λ j h l. in_or_out (y * 512) 512 (m * 512 + j) (taken_in m v y (m * 512 + j))
-      (λ o. taken_out m v y (m * 512 + j) o (after_y j h) ∙ rest_tail m v n clear-rest j h l))
+      (λ o. taken_out m v y (m * 512 + j) o (after_y j h) ∙ rest_tail m v n clear_rest j h l))
     where
       same : (n % 8 ≡ 0 → ⊥) → (y * 512 ≤ map_at m n → map_at m n < y * 512 + 512 → ⊥) → map_at m n ≡ map_at m y
           → taken m v y (map_at m n) % 2 ^ (8 - n % 8) ≡ 0
       same h o a =
           let q = map_at_inj m n y a in
           rw (a, taken_at m v y (rw a at o), clear_low (v (map_at m y)) (y % 8) (n % 8) (octets (map_at m y)) (omega arith) (omega arith))
-          (rw a at (rest_low m v n clear-rest h))
+          (rw a at (rest_low m v n clear_rest h))
 
 pub fresh_rest : (a n m : ℕ) (v : Bytes) → ((j : ℕ) → j < map_blocks n * 512 → v (m * 512 + j) ≡ fresh_map a n j)
     → rest_clear m v n ≡ true
 unfolding map_at map_blocks
 fresh_rest a n m v f =
-    rest-by m v n (λ h. rw (f (n / 8) (omega arith)) (fresh_low a n)) (λ j h l. f j l ∙ fresh_zero a n j (omega arith))
+    rest_by m v n (λ h. rw (f (n / 8) (omega arith)) (fresh_low a n)) (λ j h l. f j l ∙ fresh_zero a n j (omega arith))

@@ -3,7 +3,7 @@ use Rattle.std.specs.Prelude.{ℕ, ◌+◌, ◌-◌, ◌*◌, ◌/◌, ◌%◌, 
 use Rattle.model.specs.Bytes.{Bytes, put, paste, from, zeros, digit, ◌and◌}
 use Rattle.model.specs.Names.{Part, part, parts, proper_path, capitals}
 use Rattle.model.specs.Map.{given}
-use Rattle.model.specs.Directory.{Target, noVolume, noDirectory, missing, there, lookup, sort, is_directory, access}
+use Rattle.model.specs.Directory.{Target, no_volume, no_directory, missing, there, lookup, sort, is_directory, access}
 use Rattle.model.specs.Sound.{whole_blocks, prodos, sound}
 use Rattle.model.specs.Refusals.{Row, row}
 use Rattle.model.specs.declared.Stamp.{Stamp}
@@ -25,26 +25,26 @@ bad_path p k = row (not (proper_path p k)) 0x40
 
 -- $45, $44, $46, and $4B for what must be a data file
 unfoldable pub is_no_volume : Target → Bool
-is_no_volume noVolume = true
-is_no_volume noDirectory = false
+is_no_volume no_volume = true
+is_no_volume no_directory = false
 is_no_volume (missing d) = false
 is_no_volume (there d s) = false
 
 unfoldable pub is_no_directory : Target → Bool
-is_no_directory noVolume = false
-is_no_directory noDirectory = true
+is_no_directory no_volume = false
+is_no_directory no_directory = true
 is_no_directory (missing d) = false
 is_no_directory (there d s) = false
 
 unfoldable pub is_missing : Target → Bool
-is_missing noVolume = false
-is_missing noDirectory = false
+is_missing no_volume = false
+is_missing no_directory = false
 is_missing (missing d) = true
 is_missing (there d s) = false
 
 unfoldable pub is_there : Target → Bool
-is_there noVolume = false
-is_there noDirectory = false
+is_there no_volume = false
+is_there no_directory = false
 is_there (missing d) = false
 is_there (there d s) = true
 
@@ -59,14 +59,14 @@ not_found t = row (is_missing t) 0x46
 
 -- the directory and the place that a path leads to
 unfoldable pub home : Target → ℕ
-home noVolume = 0
-home noDirectory = 0
+home no_volume = 0
+home no_directory = 0
 home (missing d) = d
 home (there d s) = d
 
 unfoldable pub spot : Target → ℕ
-spot noVolume = 0
-spot noDirectory = 0
+spot no_volume = 0
+spot no_directory = 0
 spot (missing d) = 0
 spot (there d s) = s
 

@@ -170,7 +170,7 @@ seek v p x (s ∷ ss) = elim (is_active (sort v s) and same_name v (at s) p x) [
 -- What a path leads to: its first name is not the volume's, a middle name is missing or no directory, the last name is missing in the
 -- directory d, or it is found there at s. The path of the volume alone leads to the volume.
 pub data Target : Type 0 where
-  noVolume noDirectory : Target
+  no_volume no_directory : Target
   missing : (d : ℕ) → Target
   there : (d s : ℕ) → Target
 
@@ -184,10 +184,10 @@ along v p d [] = there d d
 along v p d (x ∷ []) = last (seek v p x (kids v d)) d
 along v p d (x ∷ y ∷ r) =
     elim (seek v p x (kids v d)) [
-      | none ↦ noDirectory
-      | some s ↦ elim (is_directory (sort v s)) [ true ↦ along v p s (y ∷ r) | false ↦ noDirectory ]
+      | none ↦ no_directory
+      | some s ↦ elim (is_directory (sort v s)) [ true ↦ along v p s (y ∷ r) | false ↦ no_directory ]
     ]
 
 unfoldable pub lookup : Bytes → Bytes → List Part → Target
-lookup v p [] = noVolume
-lookup v p (x ∷ r) = elim (same_name v (at volume) p x) [ true ↦ along v p volume r | false ↦ noVolume ]
+lookup v p [] = no_volume
+lookup v p (x ∷ r) = elim (same_name v (at volume) p x) [ true ↦ along v p volume r | false ↦ no_volume ]

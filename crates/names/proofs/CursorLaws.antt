@@ -14,7 +14,7 @@ use Rattle.names.specs.declared.Step.TheVariants.{Name, End, Bad}
 use Rattle.names.specs.Steps.{found, step_end, proper_step, step_at, parts_left, last_part, last_start}
 pub use Rattle.model.proofs.Laws.Lookup.{name_some as name_size_law}
 use Rattle.model.proofs.ByteLaws.{place_here, place_more, place_from, place_upto}
-use Rattle.names.proofs.Laws.{and_left, and_right, within-true, last_here, last_more}
+use Rattle.names.proofs.Laws.{and_left, and_right, within_true, last_here, last_more}
 
 never : {A : Type 0} → true ≡ false → A
 never e = let z : ◌≡◌ {A = ℕ} 0 1 = cc in absurd (let w : ⊥ = omega arith in w)
@@ -307,7 +307,7 @@ last_proper p x (y ∷ ys) h g = last_proper p y ys (proper_head p y ys g).1 (pr
 module _ (p : Bytes) (n : ℕ) (proper : proper_path p n ≡ true) where
   pub path_size : (1 ≤ n) × (n ≤ path_most)
   unfolding proper_path
-  path_size = within-true 1 path_most n (and_left _ _ proper)
+  path_size = within_true 1 path_most n (and_left _ _ proper)
 
   pub path_parts : proper_parts p (parts p n) ≡ true
   unfolding proper_path

@@ -9,7 +9,7 @@ use Rattle.model.specs.Bytes.{Bytes, equal_bytes, ◌and◌, within}
 use Rattle.model.specs.Names.{slash, name_byte, name_bytes, proper_parts}
 use Rattle.model.proofs.TestLaws.{and_off}
 pub use Rattle.model.proofs.TestLaws.{and_left, and_right}
-pub use Rattle.model.proofs.Laws.Spelling.{within_in, within_is as within-true, capital_small, capital_other}
+pub use Rattle.model.proofs.Laws.Spelling.{within_in, within_is as within_true, capital_small, capital_other}
 use Rattle.names.specs.Steps.{last_start}
 
 pub within_below : (low high x : ℕ) → x < low → within low high x ≡ false

@@ -5,7 +5,7 @@ use mathlib.Core.Bool.{Bool, true, false, false≢true}
 use lib.Dec.{leb, eqb}
 use borrow.Author.Tests.{eq-eqb, le-leb, leb-true, eqb-true}
 use Rattle.model.specs.Bytes.{Bytes, within, ◌and◌}
-use Rattle.model.specs.Directory.{at, volume, Target, noVolume, noDirectory, missing, there}
+use Rattle.model.specs.Directory.{at, volume, Target, no_volume, no_directory, missing, there}
 use Rattle.model.specs.Names.{proper_path}
 use Rattle.model.specs.Sound.{whole_blocks, prodos, sound}
 use Rattle.model.specs.Calls.{total, target}
@@ -83,8 +83,8 @@ opened_from n looked.Volume = opened.Volume n
 
 pub opened_from_law : (n : ℕ) (v : Bytes) (t : Target) → opened_from n (looked_as v t) ≡ opened_at n v t
 unfolding opened_at
-opened_from_law n v noVolume = refl
-opened_from_law n v noDirectory = refl
+opened_from_law n v no_volume = refl
+opened_from_law n v no_directory = refl
 opened_from_law n v (missing d) = refl
 opened_from_law n v (there d s) = go (eqb s volume)
   where

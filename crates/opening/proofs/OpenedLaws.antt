@@ -9,7 +9,7 @@ use Rattle.model.specs.Bytes.{Bytes, ◌and◌}
 use Rattle.model.specs.Names.{proper_path}
 use Rattle.directory.specs.Slots.{place_of, entry_of}
 use Rattle.directory.specs.Lookup.{home_of}
-use Rattle.model.specs.Directory.{at, volume, Target, noVolume, noDirectory, missing, there}
+use Rattle.model.specs.Directory.{at, volume, Target, no_volume, no_directory, missing, there}
 use Rattle.model.specs.Sound.{whole_blocks, prodos, sound}
 use Rattle.model.specs.Refusals.{refusal_number, Row, first}
 use Rattle.model.specs.Calls.{total, target, not_prodos, not_sound, bad_path, not_volume, not_directory, not_found, is_no_volume, is_no_directory, is_missing}
@@ -33,8 +33,8 @@ opened_or (opened.Refused r) x = refusal_number r
 -- $45, $44 and $46
 pub target_first : (n : ℕ) (v : Bytes) (t : Target) (rest : List Row) → first (not_volume t ∷ not_directory t ∷ not_found t ∷ rest) ≡ opened_or (opened_at n v t) (first rest)
 unfolding first opened_at is_no_volume is_no_directory is_missing
-target_first n v noVolume rest = refl
-target_first n v noDirectory rest = refl
+target_first n v no_volume rest = refl
+target_first n v no_directory rest = refl
 target_first n v (missing d) rest = refl
 target_first n v (there d s) rest = go (eqb s volume)
   where
@@ -77,8 +77,8 @@ seen len v p k = whole (whole_blocks len and prodos (total len) v) (sound (total
     found false d s h t e q = on_entry d s h t (eqb-false s volume e)
 
     led : (t : Target) → Fits len v (total len) → target v p k ≡ t → opened_by len v p k ≡ opened_at (total len) v t → Seen len v p k (opened_at (total len) v t)
-    led noVolume h e q = refused NoVolume q
-    led noDirectory h e q = refused NoDirectory q
+    led no_volume h e q = refused NoVolume q
+    led no_directory h e q = refused NoDirectory q
     led (missing d) h e q = refused NotFound q
     led (there d s) h e q = found (eqb s volume) d s h e refl q
 

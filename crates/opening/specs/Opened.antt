@@ -2,7 +2,7 @@
 use Rattle.std.specs.Prelude.{ℕ, Bool, true, false, eqb}
 use Rattle.model.specs.Bytes.{Bytes, ◌and◌}
 use Rattle.model.specs.Names.{proper_path}
-use Rattle.model.specs.Directory.{at, volume, Target, noVolume, noDirectory, missing, there}
+use Rattle.model.specs.Directory.{at, volume, Target, no_volume, no_directory, missing, there}
 use Rattle.model.specs.Sound.{whole_blocks, prodos, sound}
 use Rattle.model.specs.Calls.{total, target}
 use Rattle.model.specs.declared.Refusal.{Refusal}
@@ -24,8 +24,8 @@ volume_in len v =
 
 -- what a proper path leads to on a volume of n blocks
 unfoldable pub opened_at : ℕ → Bytes → Target → Opened
-opened_at n v noVolume = opened.Refused NoVolume
-opened_at n v noDirectory = opened.Refused NoDirectory
+opened_at n v no_volume = opened.Refused NoVolume
+opened_at n v no_directory = opened.Refused NoDirectory
 opened_at n v (missing d) = opened.Refused NotFound
 opened_at n v (there d s) = elim (eqb s volume) [ true ↦ opened.Volume n | false ↦ opened.Entry n (home_of v d) (place_of s) (entry_of v (at s)) ]
 

@@ -22,7 +22,7 @@ use Rattle.model.proofs.Laws.Facts.{volume_seen}
 use Rattle.model.proofs.Laws.One.{Kept}
 use Rattle.model.proofs.Laws.Sequence.{Call, renaming, ending, all_after, AllLent, Unnamed}
 use Rattle.cases.proofs.Example.{plain, worked, worked_sound, bytes, bytes_view, names_bytes, worked_octets}
-use Rattle.paths.specs.Ways.{Way, Names, stored, path as pathOf, holder, path_names, replaced, Spells, Holds}
+use Rattle.paths.specs.Ways.{Way, Names, stored, path as path_of, holder, path_names, replaced, Spells, Holds}
 use Rattle.paths.proofs.PathLaws.{path_spells, spells_path}
 use Rattle.paths.proofs.WayLaws.{one_way, way_seen}
 use Rattle.paths.proofs.CallLaws.{rename_holds, set_info_holds}
@@ -226,7 +226,7 @@ d1_later =
 -- D1 itself: its entry, blocks and bytes are kept, and so is the way.
 pub d1_file : let w = all_after 8192 two worked in
     Kept worked w 105 × (xs : List ℕ) × Way worked volume xs 105 × Way w volume xs 105
-    × (pathOf w xs ≡ all_names_after 8192 two worked (volume ∷ xs) (pathOf worked xs))
+    × (path_of w xs ≡ all_names_after 8192 two worked (volume ∷ xs) (path_of worked xs))
 unfolding observed
 d1_file =
     calls_file 8192 two worked two_lent worked_octets worked_sound 105 0

@@ -7,7 +7,7 @@ use mathlib.Core.Bool.{Bool, true, false}
 use native.Mathlib.Omega.{arith}
 use Rattle.model.specs.Bytes.{Bytes, sum, count, is}
 use Rattle.model.specs.Names.{Part, parts, same_name}
-use Rattle.model.specs.Directory.{directory, sort, is_active, is_directory, at, volume, kids, seek, Target, noVolume, noDirectory, there, last, along, lookup}
+use Rattle.model.specs.Directory.{directory, sort, is_active, is_directory, at, volume, kids, seek, Target, no_volume, no_directory, there, last, along, lookup}
 use Rattle.model.specs.Calls.{target}
 use Rattle.model.specs.Catalog.{name_text}
 use Rattle.model.specs.Sound.{sound}
@@ -96,8 +96,8 @@ module _ {n : ℕ} {v : Bytes} (S : Sound n v) (p : Bytes) where
     where
       go : (o : Option ℕ) → seek v p x (kids v d) ≡ o
           → ◌≡◌ {A = Target} (elim o [
-            | none ↦ noDirectory
-            | some t ↦ elim (is_directory (sort v t)) [ true ↦ along v p t (y ∷ r) | false ↦ noDirectory ]
+            | none ↦ no_directory
+            | some t ↦ elim (is_directory (sort v t)) [ true ↦ along v p t (y ∷ r) | false ↦ no_directory ]
           ]) (there e s)
           → ((d e s : ℕ) → Seen v d → along v p d (y ∷ r) ≡ there e s → Along (y ∷ r) d e s)
           → Along (x ∷ y ∷ r) d e s
@@ -105,7 +105,7 @@ module _ {n : ℕ} {v : Bytes} (S : Sound n v) (p : Bytes) where
       go (some t) g i rec = into (is_directory (sort v t)) refl i
         where
           into : (b : Bool) → is_directory (sort v t) ≡ b
-              → ◌≡◌ {A = Target} (elim b [ true ↦ along v p t (y ∷ r) | false ↦ noDirectory ]) (there e s)
+              → ◌≡◌ {A = Target} (elim b [ true ↦ along v p t (y ∷ r) | false ↦ no_directory ]) (there e s)
               → Along (x ∷ y ∷ r) d e s
           into false j l = let z : ◌≡◌ {A = ℕ} 0 1 = cc in absurd (omega arith)
           into true j l =
@@ -120,7 +120,7 @@ module _ {n : ℕ} {v : Bytes} (S : Sound n v) (p : Bytes) where
   lookup_way [] d s e = let z : ◌≡◌ {A = ℕ} 0 1 = unfold lookup in cc in absurd (omega arith)
   lookup_way (x ∷ r) d s e = go (same_name v (at volume) p x) refl (unfold lookup in e)
     where
-      go : (b : Bool) → same_name v (at volume) p x ≡ b → ◌≡◌ {A = Target} (elim b [ true ↦ along v p volume r | false ↦ noVolume ]) (there d s)
+      go : (b : Bool) → same_name v (at volume) p x ≡ b → ◌≡◌ {A = Target} (elim b [ true ↦ along v p volume r | false ↦ no_volume ]) (there d s)
           → (xs : List ℕ) × Way v volume xs s × (path v xs ≡ spelled p x ∷ map (spelled p) r) × (holder volume xs ≡ d)
       go false f g = let z : ◌≡◌ {A = ℕ} 0 1 = cc in absurd (omega arith)
       go true f g =

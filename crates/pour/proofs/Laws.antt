@@ -16,9 +16,9 @@ use Rattle.model.proofs.BitLaws.{is_yes, lowest_from, lowest_free, lowest_below,
 use Rattle.model.proofs.Laws.Frame.{Alike}
 use Rattle.model.proofs.Laws.Weigh.{each, has_key, Blank, pointer_blank}
 use Rattle.model.proofs.Laws.Move.{Fit, Move, move_fit, fit_key, fit_some, free_some, fit_below, lift_pointer}
-use Rattle.model.proofs.Laws.Take.{hung_move, hung_weigh, hung_at, hung_blank, backed_work, Still, data-still}
+use Rattle.model.proofs.Laws.Take.{hung_move, hung_weigh, hung_at, hung_blank, backed_work, Still, data_still}
 use Rattle.model.proofs.Laws.Room.{move_room}
-use Rattle.model.proofs.Laws.Need.{data-hole, data-at, backed_complete, lacks, need_lacks, miss_lacks}
+use Rattle.model.proofs.Laws.Need.{data_hole, data_at, backed_complete, lacks, need_lacks, miss_lacks}
 use Rattle.model.proofs.Laws.Pour.{on_way}
 use Rattle.pour.specs.Pouring.{Hinted, reached, reached_by, gap, Roomy, Backed, laid_in, Pourable}
 use Rattle.pour.specs.declared.Reached.{Reached}
@@ -97,7 +97,7 @@ module _ {n : ℕ} {w : Bytes} {h k p hint : ℕ} (R : Roomy n w (suc h) k p) (H
   unfolding i
   down_from x G full =
       let T = (backed_work n (p + 1) h (q * 256 + i) (pointer x k i) p x num (omega arith) (fit_below G il full)).move in
-      data-at h k p (pointer x k i) _ (lift_pointer G il full T i il) full
+      data_at h k p (pointer x k i) _ (lift_pointer G il full T i il) full
 
   below : (x : Bytes) → Fit n x (suc h) q k → (pointer x k i ≡ 0 → ⊥) → Fit n x h (above h p) (pointer x k i)
   below x G full = rw num at (fit_below G il full)
@@ -232,28 +232,28 @@ first_gap : (w : Bytes) (h k p c : ℕ) → h ≤ 2 → p < 256 ^ h → gap w h 
 first_gap w zero k p c l m = unfold gap in omega arith
 first_gap w (suc zero) k p c l m =
     at_or_off (pointer w k (above 0 p % 256)) 0
-    (λ e. omega (arith, gap_hole 0 k p w e, one_missing w 1 k p c m (data-hole 0 k p w e)))
+    (λ e. omega (arith, gap_hole 0 k p w e, one_missing w 1 k p c m (data_hole 0 k p w e)))
     (λ d. rw (gap_full 0 k p w d) (unfold gap in omega arith))
 first_gap w (suc (suc zero)) k p c l m =
     at_or_off (pointer w k (above 1 p % 256)) 0
     (λ e.
     let i : above 1 p % 256 ≡ p / 256 = unfold above in omega arith in
-    omega (arith, gap_hole 1 k p w e, need_both w k p c, block_hole w 2 k p m (data-hole 1 k p w e), index_hole w 2 k (p / 256) refl (rw i at e)))
+    omega (arith, gap_hole 1 k p w e, need_both w k p c, block_hole w 2 k p m (data_hole 1 k p w e), index_hole w 2 k (p / 256) refl (rw i at e)))
     (λ d. rw (gap_full 1 k p w d) (at_or_off (pointer w (pointer w k (above 1 p % 256)) (above 0 p % 256)) 0
     (λ e. omega (
       arith,
       gap_hole 0 (pointer w k (above 1 p % 256)) p w e,
-      one_missing w 2 k p c m (data-at 1 k p _ w refl d ∙ data-hole 0 (pointer w k (above 1 p % 256)) p w e),
+      one_missing w 2 k p c m (data_at 1 k p _ w refl d ∙ data_hole 0 (pointer w k (above 1 p % 256)) p w e),
     ))
     (λ f. rw (gap_full 0 (pointer w k (above 1 p % 256)) p w f) (unfold gap in omega arith))))
 first_gap w (suc (suc (suc h))) k p c l m = absurd (omega arith)
 
-data-in : {n : ℕ} {w : Bytes} (h : ℕ) {q k : ℕ} (p : ℕ) → Fit n w h q k → data_block w h k p < n
-data-in zero p F = unfold data_block in fit_key F
-data-in {n} {w} (suc h) {q} {k} p F =
+data_in : {n : ℕ} {w : Bytes} (h : ℕ) {q k : ℕ} (p : ℕ) → Fit n w h q k → data_block w h k p < n
+data_in zero p F = unfold data_block in fit_key F
+data_in {n} {w} (suc h) {q} {k} p F =
     at_or_off (pointer w k (above h p % 256)) 0
-    (λ e. rw (data-hole h k p w e) (omega (arith, F.large)))
-    (λ d. rw (data-at h k p _ w refl d) (data-in h p (fit_below F (omega arith) d)))
+    (λ e. rw (data_hole h k p w e) (omega (arith, F.large)))
+    (λ d. rw (data_at h k p _ w refl d) (data_in h p (fit_below F (omega arith) d)))
 
 -- One file block poured: p, with the end in file blocks ahead.
 module _ {n : ℕ} {v : Bytes} {h k p end : ℕ} (P : Pourable n v h k p (end - p)) (l : p < end) where
@@ -294,7 +294,7 @@ module _ {n : ℕ} {v : Bytes} {h k p end : ℕ} (P : Pourable n v h k p (end - 
       (omega (arith, miss_lacks v h k p c P.low (omega (arith, P.few)), some))).there
 
   pub pour_block : (w : Bytes) → w ≡ backed map_place n v h k p → (b : ℕ) → b ≡ data_block w h k p → b < n
-  pour_block w ew b eb = rw eb (rw ew (data-in h p grown))
+  pour_block w ew b eb = rw eb (rw ew (data_in h p grown))
 
   module _ (pos size : ℕ) (buffer : Bytes) (octets : Octets buffer) where
     -- what is laid in a data block leaves the map
@@ -305,7 +305,7 @@ module _ {n : ℕ} {v : Bytes} {h k p end : ℕ} (P : Pourable n v h k p (end - 
         let y = laid w h k p pos buffer size in
         let alike : (b : ℕ) → (b ≡ data_block w h k p → ⊥) → Alike 512 w y b = λ b d j o. unfold laid in paste_out w _ _ _ _ (λ x u. d (omega arith)) in
         let S : Still n w h 0 k y =
-        data-still n h 0 k p w y grown (unfold laid in octets_paste w _ _ _ grown.bytes (λ i o. octets _)) there alike in
+        data_still n h 0 k p w y grown (unfold laid in octets_paste w _ _ _ grown.bytes (λ i o. octets _)) there alike in
         omega (arith, S.move.level b m, S.weights (each (is b)))
 
     module _ (w : Bytes) (ew : w ≡ backed map_place n v h k p) (b : ℕ) (eb : b ≡ data_block w h k p) (y : Bytes) (ey : y ≡ laid_in w b p pos buffer size) where

@@ -7,7 +7,7 @@ use mathlib.Core.Bool.{true, false}
 use native.Mathlib.Omega.{arith}
 use Rattle.model.specs.Bytes.{Bytes, sum, count, ◌and◌}
 use Rattle.model.specs.Names.{Part, same_name}
-use Rattle.model.specs.Directory.{Sort, inactive, directory, improper, file, sort, is_active, is_directory, at, kids, seek, Target, noDirectory, last, along}
+use Rattle.model.specs.Directory.{Sort, inactive, directory, improper, file, sort, is_active, is_directory, at, kids, seek, Target, no_directory, last, along}
 use Rattle.model.proofs.SumLaws.{is_self}
 use Rattle.model.proofs.Laws.Near.{Near, same_near}
 use Rattle.model.proofs.Laws.Lookup.{seek_some}
@@ -44,8 +44,8 @@ module _ {v w : Bytes} {In : ℕ → Type 0} (K : Still v w In) (o q : Bytes) wh
       next : Bytes → Bytes → List Part → Option ℕ → Target
       next u p ps x =
           elim x [
-            | none ↦ noDirectory
-            | some s ↦ elim (is_directory (sort u s)) [ true ↦ along u p s ps | false ↦ noDirectory ]
+            | none ↦ no_directory
+            | some s ↦ elim (is_directory (sort u s)) [ true ↦ along u p s ps | false ↦ no_directory ]
           ]
 
       go : {f : Option ℕ} (u : Option ℕ) → seek v o x (kids v d) ≡ u → f ≡ seek v o x (kids v d)

@@ -9,7 +9,7 @@ use lib.ListN.{length}
 use native.Mathlib.Omega.{arith}
 use Rattle.model.specs.Bytes.{Bytes, count}
 use Rattle.model.specs.Names.{Part, part, parts, proper_name, same_name}
-use Rattle.model.specs.Directory.{Sort, inactive, directory, improper, file, sort, is_active, is_directory, at, volume, kids, seek, Target, noDirectory, missing, there, along, lookup}
+use Rattle.model.specs.Directory.{Sort, inactive, directory, improper, file, sort, is_active, is_directory, at, volume, kids, seek, Target, no_directory, missing, there, along, lookup}
 use Rattle.model.specs.Refusals.{settle}
 use Rattle.model.specs.Calls.{total, target, home, spot, last_part}
 use Rattle.model.specs.Rename.{renamed, is_other, rename_number, rename}
@@ -117,8 +117,8 @@ module _ {n : ℕ} {v : Bytes} {a d : ℕ} (q : Bytes) (j : ℕ) (S : Sound n v)
             rw (old, new, along) (into (sort v a) refl)
           where
             into : (T : Sort) → sort v a ≡ T
-                → ◌≡◌ {A = Target} (elim (is_directory (sort now a)) [ true ↦ along now o' a (u' ∷ us') | false ↦ noDirectory ])
-                (elim (is_directory (sort v a)) [ true ↦ along v o a (u ∷ us) | false ↦ noDirectory ])
+                → ◌≡◌ {A = Target} (elim (is_directory (sort now a)) [ true ↦ along now o' a (u' ∷ us') | false ↦ no_directory ])
+                (elim (is_directory (sort v a)) [ true ↦ along v o a (u ∷ us) | false ↦ no_directory ])
             into inactive i = rw (now_sort, i) refl
             into directory i = rw (now_sort, i) (along_same (now_still m A) o o' (one_more G M) a (m, A, omega arith) i)
             into improper i = rw (now_sort, i) refl
@@ -134,9 +134,9 @@ module _ {n : ℕ} {v : Bytes} {a d : ℕ} (q : Bytes) (j : ℕ) (S : Sound n v)
         from (arrived i) b h s f A (renamed_here E F N) = rw i (entry_same A (rw i at s) (rw i at f) E F N)
         from {k = k} (onward {e} {t} {d} {x} {x'} {xs = xs} c g m W) b h s f A (on_the_way {y = z} {y' = z'} E F T) =
             let B = under b h c in
-            let off-e : e ≡ a → ⊥ = λ i. let u = at_depth S A (rw i at b) in omega arith in
-            let off-t : t ≡ a → ⊥ = λ i. let u = at_depth S A (rw i at B) in omega arith in
-            let O = one_entry now_step e t (at_seen S b) c off-t in
+            let off_e : e ≡ a → ⊥ = λ i. let u = at_depth S A (rw i at b) in omega arith in
+            let off_t : t ≡ a → ⊥ = λ i. let u = at_depth S A (rw i at B) in omega arith in
+            let O = one_entry now_step e t (at_seen S b) c off_t in
             let c' : 1 ≤ count t (kids now e) = rw (now_kids e (at_seen S b)) c in
             let g' : sort now t ≡ directory = O.0 ∙ g in
             let old : seek v o z (kids v e) ≡ some t =

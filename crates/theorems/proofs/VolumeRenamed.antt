@@ -5,7 +5,7 @@ use mathlib.Core.List.{List, ◌∷◌}
 use mathlib.Core.Bool.{Bool, true, false, false≢true}
 use Rattle.model.specs.Bytes.{Bytes}
 use Rattle.model.specs.Names.{Part, part, parts, proper_name, same_name}
-use Rattle.model.specs.Directory.{at, volume, Target, noVolume, along, lookup}
+use Rattle.model.specs.Directory.{at, volume, Target, no_volume, along, lookup}
 use Rattle.model.specs.Refusals.{settle}
 use Rattle.model.specs.Calls.{total, target, spot, is_no_volume, nothing}
 use Rattle.model.specs.Rename.{named, rename_number, rename}
@@ -31,7 +31,7 @@ pub record VolumeRenamed (v q : Bytes) (j : ℕ) (w : Bytes) : Type 0 where
   pub found : (p : Bytes) (k : ℕ) → is_no_volume (target v p k) ≡ false → (o : Bytes) (i : ℕ) → FirstNamed p o q (part 0 j) (parts p k) (parts o i)
       → target w o i ≡ target v p k
   -- a path with another first name leads nowhere
-  pub gone : (o : Bytes) (i : ℕ) (x : Part) (xs : List Part) → parts o i ≡ x ∷ xs → (Spelled o x q (part 0 j) → ⊥) → target w o i ≡ noVolume
+  pub gone : (o : Bytes) (i : ℕ) (x : Part) (xs : List Part) → parts o i ≡ x ∷ xs → (Spelled o x q (part 0 j) → ⊥) → target w o i ≡ no_volume
 
 -- The volume.
 module _ {n : ℕ} {v : Bytes} (q : Bytes) (j : ℕ) (S : Sound n v) (proper : proper_name q 0 j ≡ true) where
@@ -57,16 +57,16 @@ module _ {n : ℕ} {v : Bytes} (q : Bytes) (j : ℕ) (S : Sound n v) (proper : p
   volume_found p o f (first_named {x} {y} {xs} {ys} E N) =
       rw (bears_same after (at volume) o y (spelled_bears (spelled_sym E) after_named), lookup) (go (same_name v (at volume) p x) f)
     where
-      go : (b : Bool) → is_no_volume (elim b [ true ↦ along v p volume xs | false ↦ noVolume ]) ≡ false
-          → along after o volume ys ≡ elim b [ true ↦ along v p volume xs | false ↦ noVolume ]
+      go : (b : Bool) → is_no_volume (elim b [ true ↦ along v p volume xs | false ↦ no_volume ]) ≡ false
+          → along after o volume ys ≡ elim b [ true ↦ along v p volume xs | false ↦ no_volume ]
       go true g = along_same after_still p o N volume (volume_seen S) (volume_directory S)
       go false g = absurd (false≢true (sym g))
 
-  volume_gone : (o : Bytes) (x : Part) (xs : List Part) → (Spelled o x q (part 0 j) → ⊥) → lookup after o (x ∷ xs) ≡ noVolume
+  volume_gone : (o : Bytes) (x : Part) (xs : List Part) → (Spelled o x q (part 0 j) → ⊥) → lookup after o (x ∷ xs) ≡ no_volume
   unfolding lookup
   volume_gone o x xs off = go (same_name after (at volume) o x) refl
     where
-      go : (b : Bool) → same_name after (at volume) o x ≡ b → elim b as (λ _. Target) [ true ↦ along after o volume xs | false ↦ noVolume ] ≡ noVolume
+      go : (b : Bool) → same_name after (at volume) o x ≡ b → elim b as (λ _. Target) [ true ↦ along after o volume xs | false ↦ no_volume ] ≡ no_volume
       go true m = absurd (off (bears_spelled (same_bears after (at volume) o x m) after_named))
       go false m = refl
 

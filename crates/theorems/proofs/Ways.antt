@@ -8,7 +8,7 @@ use lib.ListN.{length}
 use native.Mathlib.Omega.{arith}
 use Rattle.model.specs.Bytes.{Bytes, count}
 use Rattle.model.specs.Names.{Part, same_name}
-use Rattle.model.specs.Directory.{directory, sort, is_active, is_directory, at, volume, kids, seek, Target, noVolume, noDirectory, missing, there, last, along, lookup}
+use Rattle.model.specs.Directory.{directory, sort, is_active, is_directory, at, volume, kids, seek, Target, no_volume, no_directory, missing, there, last, along, lookup}
 use Rattle.model.specs.Calls.{is_no_volume, is_no_directory, is_missing, is_there, home, spot, last_part}
 use Rattle.model.proofs.Laws.Sound.{Sound}
 use Rattle.model.proofs.Laws.Facts.{Seen, kid_seen, kid_proper, one_parent, volume_seen, volume_directory}
@@ -76,7 +76,7 @@ along_leads v p e x [] f = arrived (go (seek v p x (kids v e)))
 along_leads v p e x (y ∷ r) f = go (seek v p x (kids v e)) refl f (λ s g. along_leads v p s y r g)
   where
     Deep : Option ℕ → Target
-    Deep o = elim o [ none ↦ noDirectory | some s ↦ elim (is_directory (sort v s)) [ true ↦ along v p s (y ∷ r) | false ↦ noDirectory ] ]
+    Deep o = elim o [ none ↦ no_directory | some s ↦ elim (is_directory (sort v s)) [ true ↦ along v p s (y ∷ r) | false ↦ no_directory ] ]
 
     go : (o : Option ℕ) → seek v p x (kids v e) ≡ o → is_no_directory (Deep o) ≡ false
         → ((s : ℕ) → is_no_directory (along v p s (y ∷ r)) ≡ false → Leads v p s (y ∷ r) (home (along v p s (y ∷ r))) (last_part (y ∷ r)))
@@ -84,8 +84,8 @@ along_leads v p e x (y ∷ r) f = go (seek v p x (kids v e)) refl f (λ s g. alo
     go none g f rec = absurd (false≢true (sym f))
     go (some s) g f rec = into (is_directory (sort v s)) refl f
       where
-        into : (b : Bool) → is_directory (sort v s) ≡ b → is_no_directory (elim b [ true ↦ along v p s (y ∷ r) | false ↦ noDirectory ]) ≡ false
-            → Leads v p e (x ∷ y ∷ r) (home (elim b [ true ↦ along v p s (y ∷ r) | false ↦ noDirectory ])) (last_part (y ∷ r))
+        into : (b : Bool) → is_directory (sort v s) ≡ b → is_no_directory (elim b [ true ↦ along v p s (y ∷ r) | false ↦ no_directory ]) ≡ false
+            → Leads v p e (x ∷ y ∷ r) (home (elim b [ true ↦ along v p s (y ∷ r) | false ↦ no_directory ])) (last_part (y ∷ r))
         into true i f =
             let q = seek_some v p x (kids v e) s g in
             onward q.0 (directory_is (sort v s) i) q.2 (rec s f)
@@ -101,9 +101,9 @@ reaches_two : (v p : Bytes) (x y : Part) (r : List Part) → is_no_volume (looku
 unfolding lookup is_no_volume last_part
 reaches_two v p x y r e f = go (same_name v (at volume) p x) refl e f
   where
-    go : (b : Bool) → same_name v (at volume) p x ≡ b → is_no_volume (elim b [ true ↦ along v p volume (y ∷ r) | false ↦ noVolume ]) ≡ false
-        → is_no_directory (elim b [ true ↦ along v p volume (y ∷ r) | false ↦ noVolume ]) ≡ false
-        → Reaches v p (x ∷ y ∷ r) (home (elim b [ true ↦ along v p volume (y ∷ r) | false ↦ noVolume ])) (last_part (y ∷ r))
+    go : (b : Bool) → same_name v (at volume) p x ≡ b → is_no_volume (elim b [ true ↦ along v p volume (y ∷ r) | false ↦ no_volume ]) ≡ false
+        → is_no_directory (elim b [ true ↦ along v p volume (y ∷ r) | false ↦ no_volume ]) ≡ false
+        → Reaches v p (x ∷ y ∷ r) (home (elim b [ true ↦ along v p volume (y ∷ r) | false ↦ no_volume ])) (last_part (y ∷ r))
     go true h e f = reached h (along_leads v p volume y r f)
     go false h e f = absurd (false≢true (sym e))
 
@@ -113,8 +113,8 @@ unfolding lookup is_no_volume last_part
 path_reaches v p [] e f g = absurd (false≢true (sym e))
 path_reaches v p (x ∷ []) e f g = absurd (go (same_name v (at volume) p x) e g)
   where
-    go : (b : Bool) → is_no_volume (elim b [ true ↦ along v p volume [] | false ↦ noVolume ]) ≡ false
-        → (elim b [ true ↦ along v p volume [] | false ↦ noVolume ] ≡ there volume volume → ⊥) → ⊥
+    go : (b : Bool) → is_no_volume (elim b [ true ↦ along v p volume [] | false ↦ no_volume ]) ≡ false
+        → (elim b [ true ↦ along v p volume [] | false ↦ no_volume ] ≡ there volume volume → ⊥) → ⊥
     go true e g = g (unfold along in refl)
     go false e g = false≢true (sym e)
 path_reaches v p (x ∷ y ∷ r) e f g = reaches_two v p x y r e f
@@ -143,14 +143,14 @@ reaches_names (reached m L) N = alike_names_law N
 -- a target whose kind is known
 pub is_there_law : (t : Target) → is_no_volume t ≡ false → is_no_directory t ≡ false → is_missing t ≡ false → t ≡ there (home t) (spot t)
 unfolding is_no_volume is_no_directory is_missing home spot
-is_there_law noVolume e f g = absurd (false≢true (sym e))
-is_there_law noDirectory e f g = absurd (false≢true (sym f))
+is_there_law no_volume e f g = absurd (false≢true (sym e))
+is_there_law no_directory e f g = absurd (false≢true (sym f))
 is_there_law (missing d) e f g = absurd (false≢true (sym g))
 is_there_law (there d s) e f g = refl
 
 pub is_missing_law : (t : Target) → is_no_volume t ≡ false → is_no_directory t ≡ false → is_there t ≡ false → t ≡ missing (home t)
 unfolding is_no_volume is_no_directory is_there home
-is_missing_law noVolume e f g = absurd (false≢true (sym e))
-is_missing_law noDirectory e f g = absurd (false≢true (sym f))
+is_missing_law no_volume e f g = absurd (false≢true (sym e))
+is_missing_law no_directory e f g = absurd (false≢true (sym f))
 is_missing_law (missing d) e f g = refl
 is_missing_law (there d s) e f g = absurd (false≢true (sym g))

@@ -1,4 +1,4 @@
--- `directory::kind_for` meets its contract: each range of the match is one case of kindFor.
+-- `directory::kind_for` meets its contract: each range of the match is one case of `kind_for`.
 use Prim.Native.Nat.{◌≤◌, ◌<◌}
 use native.Mathlib.Omega.{arith}
 use borrow.Author.Tests.{le-leb, lt-leb}

@@ -116,9 +116,9 @@ pub still_data : {n : ℕ} {w : Bytes} {h q k : ℕ} {w' : Bytes} → Still n w 
 still_data {w = w} {h} {q} {k} {w'} A r s = same_data w h q k w' h q k r (λ b. A.weights (spot r b)) s s
 
 -- two file blocks have two data blocks
-pub data-apart : {n : ℕ} {w : Bytes} {h q k : ℕ} → Fit n w h q k → (r s : ℕ) → q ≡ above h r → q ≡ above h s → (r ≡ s → ⊥)
+pub data_apart : {n : ℕ} {w : Bytes} {h q k : ℕ} → Fit n w h q k → (r s : ℕ) → q ≡ above h r → q ≡ above h s → (r ≡ s → ⊥)
     → (data_block w h k r ≡ 0 → ⊥) → data_block w h k s ≡ data_block w h k r → ⊥
-data-apart {w = w} {h} {q} {k} F r s m o d z e =
+data_apart {w = w} {h} {q} {k} F r s m o d z e =
     let b = data_block w h k r in
     let all = has_split w h q k b in
     let two : weigh (spot s b) w h q k ≡ 1 = spot_is s b w h q k z o ∙ rw e (is_self b) in

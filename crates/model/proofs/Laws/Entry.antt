@@ -219,26 +219,26 @@ module _ {n : ℕ} {v : Bytes} {a d h : ℕ} (R : Ready n v a d h) {w : Bytes} {
       let E = entry_right R in
       let old = right R in
       let name : capital_name called (at a) ≡ true = capital_near near ∙ E.name in
-      let up-w : directory_key w a ≡ directory_key v a =
+      let up_w : directory_key w a ≡ directory_key v a =
       field_at w a 0x25 volume_block P.proper
       ∙ word_same w v _ _ (slot_alike 0x25 (omega arith)) (rw (add_assoc (at a) 0x25 1) (slot_alike 0x26 (omega arith)))
       ∙ sym (field_at v a 0x25 volume_block P.proper) in
-      let up : directory_key called a ≡ key called d = noted_up w a g k e t P.proper ∙ up-w ∙ E.up ∙ sym (one_directory step) in
+      let up : directory_key called a ≡ key called d = noted_up w a g k e t P.proper ∙ up_w ∙ E.up ∙ sym (one_directory step) in
       let type : ftype called a ≡ ftype v a =
       noted_type w a g k e t P.proper
       ∙ ftype_at w a P.proper
       ∙ slot_alike 0x10 (omega arith)
       ∙ sym (ftype_at v a P.proper) in
-      let long-blocks : length (blocks called a) ≡ size w g 0 k =
+      let long_blocks : length (blocks called a) ≡ size w g 0 k =
       rw (file_blocks called a g called_sort, called_key) (blocks_length called g 0 k ∙ read (each (λ _. 1))) in
-      let in-range : outside n (blocks called a) ≡ 0 =
+      let in_range : outside n (blocks called a) ≡ 0 =
       rw (file_blocks called a g called_sort, called_key)
       (nodes_outside called g 0 k n
       ∙ read (each (λ b. one_if (leb n b)))
       ∙ weigh_zero (each (λ b. one_if (leb n b))) w g 0 k (λ _ _ b s. rw (lt-leb n b (T.range b s)) refl)) in
       rw called_sort
-      (file_none n called g m d a name up (λ z. old.typed (sym type ∙ z)) (rw called_eof tall) (called_used ∙ sym long-blocks)
-      (rw (called_key, called_eof) (nodes_late called g 0 k (span e) ∙ read (tardy (span e)) ∙ ends)) in-range)
+      (file_none n called g m d a name up (λ z. old.typed (sym type ∙ z)) (rw called_eof tall) (called_used ∙ sym long_blocks)
+      (rw (called_key, called_eof) (nodes_late called g 0 k (span e) ∙ read (tardy (span e)) ∙ ends)) in_range)
 
   -- the directory's count of entries
   head_kept : (j : ℕ) → 37 ≤ j → j < 39 → called (key v d * 512 + j) ≡ v (key v d * 512 + j)

@@ -214,10 +214,10 @@ nodes_same v v' (suc h) q k f =
     one i l e false z g = unfold limb in rw (e, z, limb) (rw e (g (λ b d. f b (limb_in v h q k i b l z d))))
 
 -- the data block of a file block is in the tree, or there is none
-pub data-in : (v : Bytes) (h q k p : ℕ) → (data_block v h k p ≡ 0 → ⊥) → 1 ≤ count (data_block v h k p) (blocks_in (nodes v h q k))
+pub data_in : (v : Bytes) (h q k p : ℕ) → (data_block v h k p ≡ 0 → ⊥) → 1 ≤ count (data_block v h k p) (blocks_in (nodes v h q k))
 unfolding data_block
-data-in v zero q k p n = key_in v 0 q k
-data-in v (suc h) q k p n = go (eqb (pointer v k i) 0) refl (data-in v h (q * 256 + i) (pointer v k i) p) n
+data_in v zero q k p n = key_in v 0 q k
+data_in v (suc h) q k p n = go (eqb (pointer v k i) 0) refl (data_in v h (q * 256 + i) (pointer v k i) p) n
   where
     i : ℕ
     i = above h p % 256
@@ -229,11 +229,11 @@ data-in v (suc h) q k p n = go (eqb (pointer v k i) 0) refl (data-in v h (q * 25
     go true z g n = absurd (n refl)
     go false z g n = limb_in v h q k i (data_block v h (pointer v k i) p) (omega arith) z (g n)
 
-pub data-same : (v v' : Bytes) (h q k p : ℕ) → ((b : ℕ) → 1 ≤ count b (blocks_in (nodes v h q k)) → Alike 512 v v' b) → data_block v' h k p ≡ data_block v h k p
+pub data_same : (v v' : Bytes) (h q k p : ℕ) → ((b : ℕ) → 1 ≤ count b (blocks_in (nodes v h q k)) → Alike 512 v v' b) → data_block v' h k p ≡ data_block v h k p
 unfolding data_block
-data-same v v' zero q k p f = refl
-data-same v v' (suc h) q k p f =
-    go (pointer_in v v' k i (f k (key_in v (suc h) q k)) (omega arith)) (eqb (pointer v k i) 0) refl (data-same v v' h (q * 256 + i) (pointer v k i) p)
+data_same v v' zero q k p f = refl
+data_same v v' (suc h) q k p f =
+    go (pointer_in v v' k i (f k (key_in v (suc h) q k)) (omega arith)) (eqb (pointer v k i) 0) refl (data_same v v' h (q * 256 + i) (pointer v k i) p)
   where
     i : ℕ
     i = above h p % 256
@@ -247,13 +247,13 @@ data-same v v' (suc h) q k p f =
 
 pub file_byte_same : (v v' : Bytes) (h k : ℕ) → ((b : ℕ) → 1 ≤ count b (blocks_in (nodes v h 0 k)) → Alike 512 v v' b) → file_byte v' h k ≡ file_byte v h k
 unfolding file_byte
-file_byte_same v v' h k f = fun_ext (λ i. go i (data_block v' h k (i / 512)) (data-same v v' h 0 k (i / 512) f) (eqb (data_block v h k (i / 512)) 0) refl)
+file_byte_same v v' h k f = fun_ext (λ i. go i (data_block v' h k (i / 512)) (data_same v v' h 0 k (i / 512) f) (eqb (data_block v h k (i / 512)) 0) refl)
   where
     go : (i d : ℕ) → d ≡ data_block v h k (i / 512) → (z : Bool) → eqb (data_block v h k (i / 512)) 0 ≡ z
         → ◌≡◌ {A = ℕ} (elim (eqb d 0) [ true ↦ 0 | false ↦ v' (d * 512 + i % 512) ])
         (elim (eqb (data_block v h k (i / 512)) 0) [ true ↦ 0 | false ↦ v (data_block v h k (i / 512) * 512 + i % 512) ])
     go i d e true z = rw (e, z) refl
-    go i d e false z = rw (e, z) (rw e (f (data_block v h k (i / 512)) (data-in v h 0 k (i / 512) (eqb-false _ 0 z)) (i % 512) (omega arith)))
+    go i d e false z = rw (e, z) (rw e (f (data_block v h k (i / 512)) (data_in v h 0 k (i / 512) (eqb-false _ 0 z)) (i % 512) (omega arith)))
 
 -- Names: 16 bytes, the size first.
 abbrev pub Named : Bytes → Bytes → ℕ → Type 0

@@ -109,17 +109,17 @@ module _ {n : ℕ} {v : Bytes} {a d h : ℕ} (R : Ready n v a d h) (e : ℕ) (lo
       (omega (arith, A.weights (each (λ _. 1)), move_room (fit R) A.move)) in
       let H = move_fit G B.work.move in
       let late : weigh (tardy (span (eof v a))) f h 0 (key v a) ≡ 0 = A.weights (tardy (span (eof v a))) ∙ was_late R in
-      let new-path : (i : ℕ) → i < e → 0 ≡ above (height_for e) (i / 512) = λ i l. height_path e (i / 512) small (span_in e i l) in
+      let new_path : (i : ℕ) → i < e → 0 ≡ above (height_for e) (i / 512) = λ i l. height_path e (i / 512) small (span_in e i l) in
       record {
         move = move_then A.move B.work.move;
         ends = B.work.timely (late_le (span (eof v a)) (span e) f h 0 (key v a) (span_le (eof v a) e longer) late);
         keyed = λ x o. B.keyed x o ∙ A.weights x;
         more = omega (arith, A.weights (each (λ _. 1)), B.more);
         below = λ i l.
-            work_byte B.work H i (new-path i (omega arith)) (old_path (i / 512) (span_in (eof v a) i l)) ∙ Z.below i l;
+            work_byte B.work H i (new_path i (omega arith)) (old_path (i / 512) (span_in (eof v a) i l)) ∙ Z.below i l;
         past = λ i l m. by_lt (i / 512) (span (eof v a))
-            (λ s. work_byte B.work H i (new-path i m) (old_path (i / 512) s) ∙ Z.past i l m s)
-            (λ s. work_zero B.work H i (new-path i m) (λ b _. late_hole (span (eof v a)) f h 0 (key v a) (i / 512) b late s));
+            (λ s. work_byte B.work H i (new_path i m) (old_path (i / 512) s) ∙ Z.past i l m s)
+            (λ s. work_zero B.work H i (new_path i m) (λ b _. late_hole (span (eof v a)) f h 0 (key v a) (i / 512) b late s));
       }
 
   -- with the height in question as x

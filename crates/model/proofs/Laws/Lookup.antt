@@ -10,7 +10,7 @@ use native.Mathlib.Omega.{arith}
 use borrow.Author.Tests.{eqb-true, eqb-false, ltb-true}
 use Rattle.model.specs.Bytes.{Bytes, sum, count, is, ◌and◌}
 use Rattle.model.specs.Names.{Part, part, slash, name_most, path_most, name_end, parts_from, parts, proper_name, proper_parts, proper_path, same_name}
-use Rattle.model.specs.Directory.{Sort, inactive, directory, improper, file, sort, is_active, is_directory, at, volume, kids, seek, Target, noVolume, noDirectory, missing, there, last, along, lookup}
+use Rattle.model.specs.Directory.{Sort, inactive, directory, improper, file, sort, is_active, is_directory, at, volume, kids, seek, Target, no_volume, no_directory, missing, there, last, along, lookup}
 use Rattle.model.specs.Refusals.{Row, row, first}
 use Rattle.model.specs.Calls.{is_no_volume, is_no_directory, is_missing, is_there, home, spot, target, last_part}
 use Rattle.model.proofs.ByteLaws.{place_upto}
@@ -93,8 +93,8 @@ pub record Home (v : Bytes) (d k : ℕ) : Type 0 where
 
 -- What a path leads to: y is its last name, and c names follow its first.
 pub data Led (v p : Bytes) (y : Part) (c : ℕ) : Target → Type 0 where
-  no_volume : Led v p y c noVolume
-  no_directory : Led v p y c noDirectory
+  no_volume_led : Led v p y c no_volume
+  no_directory_led : Led v p y c no_directory
   not_there : (d k : ℕ) → Home v d k → k + 1 ≡ c → seek v p y (kids v d) ≡ none → Led v p y c (missing d)
   is_there_law : (d k s : ℕ) → Home v d k → k + 1 ≡ c → seek v p y (kids v d) ≡ some s → Led v p y c (there d s)
   is_volume : Led v p y c (there volume volume)
@@ -118,13 +118,13 @@ module _ {n : ℕ} {v : Bytes} (S : Sound n v) (p : Bytes) where
       go : (o : Option ℕ) → seek v p x (kids v d) ≡ o
           → ((d k : ℕ) → Home v d k → Led v p (last_part (y ∷ r)) (k + length (y ∷ r)) (along v p d (y ∷ r)))
           → Led v p (last_part (y ∷ r)) (k + suc (length (y ∷ r)))
-          (elim o [ none ↦ noDirectory | some s ↦ elim (is_directory (sort v s)) [ true ↦ along v p s (y ∷ r) | false ↦ noDirectory ] ])
-      go none e f = no_directory
+          (elim o [ none ↦ no_directory | some s ↦ elim (is_directory (sort v s)) [ true ↦ along v p s (y ∷ r) | false ↦ no_directory ] ])
+      go none e f = no_directory_led
       go (some s) e f = into (is_directory (sort v s)) refl
         where
           into : (b : Bool) → is_directory (sort v s) ≡ b
-              → Led v p (last_part (y ∷ r)) (k + suc (length (y ∷ r))) (elim b [ true ↦ along v p s (y ∷ r) | false ↦ noDirectory ])
-          into false g = no_directory
+              → Led v p (last_part (y ∷ r)) (k + suc (length (y ∷ r))) (elim b [ true ↦ along v p s (y ∷ r) | false ↦ no_directory ])
+          into false g = no_directory_led
           into true g =
               let c = (seek_some v p x (kids v d) s e).0 in
               let i : suc k + length (y ∷ r) ≡ k + suc (length (y ∷ r)) = omega arith in
@@ -143,17 +143,17 @@ module _ {n : ℕ} {v : Bytes} (S : Sound n v) (p : Bytes) where
 
   lookup_led : (ps : List Part) → Led v p (last_part ps) (length ps - 1) (lookup v p ps)
   unfolding lookup along last_part
-  lookup_led [] = no_volume
+  lookup_led [] = no_volume_led
   lookup_led (x ∷ []) = go (same_name v (at volume) p x)
     where
-      go : (b : Bool) → Led v p x 0 (elim b [ true ↦ there volume volume | false ↦ noVolume ])
+      go : (b : Bool) → Led v p x 0 (elim b [ true ↦ there volume volume | false ↦ no_volume ])
       go true = is_volume
-      go false = no_volume
+      go false = no_volume_led
   lookup_led (x ∷ y ∷ r) = go (same_name v (at volume) p x)
     where
-      go : (b : Bool) → Led v p (last_part (y ∷ r)) (length (x ∷ y ∷ r) - 1) (elim b [ true ↦ along v p volume (y ∷ r) | false ↦ noVolume ])
+      go : (b : Bool) → Led v p (last_part (y ∷ r)) (length (x ∷ y ∷ r) - 1) (elim b [ true ↦ along v p volume (y ∷ r) | false ↦ no_volume ])
       go true = let i : 0 + length (y ∷ r) ≡ length (x ∷ y ∷ r) - 1 = omega arith in rw (← i) (along_led r y volume 0 volume_home)
-      go false = no_volume
+      go false = no_volume_led
 
   pub target_led : (k : ℕ) → Led v p (last_part (parts p k)) (length (parts p k) - 1) (target v p k)
   target_led k = lookup_led (parts p k)
@@ -226,8 +226,8 @@ pub record Entry (v p : Bytes) (y : Part) (d s : ℕ) : Type 0 where
 pub entry_led : {n : ℕ} {v : Bytes} {p : Bytes} {y : Part} {c : ℕ} {t : Target} → Sound n v → Led v p y c t
     → is_no_volume t ≡ false → is_no_directory t ≡ false → is_missing t ≡ false → (spot t ≡ volume → ⊥) → Entry v p y (home t) (spot t)
 unfolding is_no_volume is_no_directory is_missing spot home
-entry_led S no_volume e f g z = absurd (false≢true (sym e))
-entry_led S no_directory e f g z = absurd (false≢true (sym f))
+entry_led S no_volume_led e f g z = absurd (false≢true (sym e))
+entry_led S no_directory_led e f g z = absurd (false≢true (sym f))
 entry_led S (not_there d k H i j) e f g z = absurd (false≢true (sym g))
 entry_led {v = v} {p} {y} S (is_there_law d k s H i j) e f g z =
     let r = seek_some v p y (kids v d) s j in
@@ -244,8 +244,8 @@ pub record Open (v p : Bytes) (y : Part) (c d : ℕ) : Type 0 where
 pub open_led : {v : Bytes} {p : Bytes} {y : Part} {c : ℕ} {t : Target} → Led v p y c t
     → is_no_volume t ≡ false → is_no_directory t ≡ false → is_there t ≡ false → Open v p y c (home t)
 unfolding is_no_volume is_no_directory is_there home
-open_led no_volume e f g = absurd (false≢true (sym e))
-open_led no_directory e f g = absurd (false≢true (sym f))
+open_led no_volume_led e f g = absurd (false≢true (sym e))
+open_led no_directory_led e f g = absurd (false≢true (sym f))
 open_led (not_there d k H i j) e f g = record { steps = k; home = H; depth = i; lacks = j }
 open_led (is_there_law d k s H i j) e f g = absurd (false≢true (sym g))
 open_led is_volume e f g = absurd (false≢true (sym g))

@@ -20,13 +20,13 @@ use Rattle.model.proofs.Laws.Take.{hung_move, hung_work, hung_weigh, hung_at, hu
 use Rattle.model.proofs.Laws.Room.{move_room, Keyed}
 use Rattle.model.proofs.Laws.Data.{spot, spot_off, spot_is, same_data}
 
-pub data-hole : (h k p : ℕ) (w : Bytes) → pointer w k (above h p % 256) ≡ 0 → data_block w (suc h) k p ≡ 0
+pub data_hole : (h k p : ℕ) (w : Bytes) → pointer w k (above h p % 256) ≡ 0 → data_block w (suc h) k p ≡ 0
 unfolding data_block
-data-hole h k p w e = rw (eq-eqb (pointer w k (above h p % 256)) 0 e, data_block) refl
+data_hole h k p w e = rw (eq-eqb (pointer w k (above h p % 256)) 0 e, data_block) refl
 
-pub data-at : (h k p c : ℕ) (w : Bytes) → pointer w k (above h p % 256) ≡ c → (c ≡ 0 → ⊥) → data_block w (suc h) k p ≡ data_block w h c p
+pub data_at : (h k p c : ℕ) (w : Bytes) → pointer w k (above h p % 256) ≡ c → (c ≡ 0 → ⊥) → data_block w (suc h) k p ≡ data_block w h c p
 unfolding data_block
-data-at h k p c w e z = rw (ne_eqb (pointer w k (above h p % 256)) 0 (λ y. z (sym e ∙ y)), data_block) (rw e refl)
+data_at h k p c w e z = rw (ne_eqb (pointer w k (above h p % 256)) 0 (λ y. z (sym e ∙ y)), data_block) (rw e refl)
 
 -- the blocks missing for the file block p
 pub miss : Bytes → ℕ → ℕ → ℕ → ℕ
@@ -76,7 +76,7 @@ backed_complete n e (suc h) q k p w s l F m =
         let y = backed map_place n x h (pointer x k i) p in
         let T = (backed_work n e h (q * 256 + i) (pointer x k i) p x num l (fit_below G (omega arith) full)).move in (
           omega (arith, C.more, lift_weigh G (omega arith) full T (each (λ _. 1))),
-          λ o. C.there (sym (data-at h k p (pointer x k i) y (lift_pointer G (omega arith) full T i (omega arith)) full) ∙ o),
+          λ o. C.there (sym (data_at h k p (pointer x k i) y (lift_pointer G (omega arith) full T i (omega arith)) full) ∙ o),
         )
 
     go : (b : Bool) → eqb (pointer w k i) 0 ≡ b → (c : Bool) → ltb z n ≡ c
@@ -228,19 +228,19 @@ miss_none w k p some = sym (is_no k 0 some)
 miss_one : (w : Bytes) (k p : ℕ) → miss w 1 k p ≡ is (data_block w 1 k p) 0
 miss_one w k p =
     at_or_off (pointer w k (above 0 p % 256)) 0
-    (λ e. rw (miss_hole 0 k p w e, data-hole 0 k p w e) (sym (is_self 0)))
+    (λ e. rw (miss_hole 0 k p w e, data_hole 0 k p w e) (sym (is_self 0)))
     (λ d.
     let c = pointer w k (above 0 p % 256) in
-    let e : data_block w 1 k p ≡ c = data-at 0 k p c w refl d ∙ (unfold data_block in refl) in
+    let e : data_block w 1 k p ≡ c = data_at 0 k p c w refl d ∙ (unfold data_block in refl) in
     rw (miss_full 0 k p w d, e, is_no c 0 d) (unfold miss in refl))
 
 miss_two : (w : Bytes) (k p : ℕ) → miss w 2 k p ≡ is (pointer w k (above 1 p % 256)) 0 + is (data_block w 2 k p) 0
 miss_two w k p =
     at_or_off (pointer w k (above 1 p % 256)) 0
-    (λ e. rw (miss_hole 1 k p w e, data-hole 1 k p w e, is_yes (pointer w k (above 1 p % 256)) 0 e) (omega (arith, is_self 0)))
+    (λ e. rw (miss_hole 1 k p w e, data_hole 1 k p w e, is_yes (pointer w k (above 1 p % 256)) 0 e) (omega (arith, is_self 0)))
     (λ d.
     let c = pointer w k (above 1 p % 256) in
-    rw (miss_full 1 k p w d, data-at 1 k p c w refl d, is_no c 0 d, miss_one w c p) (omega arith))
+    rw (miss_full 1 k p w d, data_at 1 k p c w refl d, is_no c 0 d, miss_one w c p) (omega arith))
 
 -- one file block in hand, and the rest as it was
 module _ (w w' : Bytes) (g k e p c : ℕ) (path : (r : ℕ) → r < e → 0 ≡ above g r) (pe : p + suc c ≤ e)
@@ -302,7 +302,7 @@ lacks_step w w' (suc (suc zero)) k e p c gl el path pe some same d =
       arith,
       gaps_step w w' 2 k e p c path pe same,
       rw i at (miss_two w k p),
-      holes_step w w' k p c (omega arith) same (λ z. d (data-hole 1 k p w' (rw i z))),
+      holes_step w w' k p c (omega arith) same (λ z. d (data_hole 1 k p w' (rw i z))),
     ))
 lacks_step w w' (suc (suc (suc g))) k e p c gl el path pe some same d = absurd (omega arith)
 
@@ -316,7 +316,7 @@ lacks_none w (suc (suc zero)) k p gl pl d = rw (lacks_tree w k (p + 1) 0) (omega
     unused = unfold gaps run sum in refl
 
     there : pointer w k (p / 256) ≡ 0 → ⊥
-    there z = let i : above 1 p % 256 ≡ p / 256 = unfold above in omega arith in d (data-hole 1 k p w (rw i z))
+    there z = let i : above 1 p % 256 ≡ p / 256 = unfold above in omega arith in d (data_hole 1 k p w (rw i z))
 
     none : holes w k (p + 1) 0 ≡ 0
     none =
@@ -381,7 +381,7 @@ index_low v h k i d = rw (ne_eqb h 2 d, lacks_index) refl
 key_there : (v : Bytes) (k : ℕ) (w : Bytes) (l : ℕ) → (k ≡ 0 → ⊥) → Keyed v 0 k w 2 l → pointer w l 0 ≡ 0 → ⊥
 unfolding above data_block
 key_there v k w l some keyed z =
-    some (sym (same_data v 0 0 k w 2 0 l 0 (λ b. keyed (spot 0 b) (λ m c _. refl)) refl refl) ∙ data-hole 1 l 0 w z)
+    some (sym (same_data v 0 0 k w 2 0 l 0 (λ b. keyed (spot 0 b) (λ m c _. refl)) refl refl) ∙ data_hole 1 l 0 w z)
 
 index_need : (v : Bytes) (h k : ℕ) (w : Bytes) (l : ℕ) → h ≤ 2 → (k ≡ 0 → ⊥) → Keyed v h k w 2 l → (i : ℕ) → i < 256
     → is (pointer w l i) 0 ≡ lacks_index v h k i

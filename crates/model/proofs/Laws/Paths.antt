@@ -7,7 +7,7 @@ use mathlib.Core.Bool.{Bool, true, false}
 use native.Mathlib.Omega.{arith}
 use Rattle.model.specs.Bytes.{Bytes, sum, count, ◌and◌}
 use Rattle.model.specs.Names.{Part, parts}
-use Rattle.model.specs.Directory.{directory, sort, is_active, is_directory, at, volume, kids, seek, Target, noVolume, noDirectory, last, along, lookup}
+use Rattle.model.specs.Directory.{directory, sort, is_active, is_directory, at, volume, kids, seek, Target, no_volume, no_directory, last, along, lookup}
 use Rattle.model.specs.Calls.{target}
 use Rattle.model.proofs.SumLaws.{is_self}
 use Rattle.model.proofs.Laws.Sound.{Sound}
@@ -57,8 +57,8 @@ module _ {n : ℕ} {v : Bytes} (S : Sound n v) {v' : Bytes} (N : SameNames v v')
       next : Bytes → Option ℕ → Target
       next w o =
           elim o [
-            | none ↦ noDirectory
-            | some s ↦ elim (is_directory (sort w s)) [ true ↦ along w p s (y ∷ r) | false ↦ noDirectory ]
+            | none ↦ no_directory
+            | some s ↦ elim (is_directory (sort w s)) [ true ↦ along w p s (y ∷ r) | false ↦ no_directory ]
           ]
 
       go : (o : Option ℕ) → seek v p x (kids v d) ≡ o → seek v' p x (kids v' d) ≡ seek v p x (kids v d)
@@ -81,7 +81,7 @@ module _ {n : ℕ} {v : Bytes} (S : Sound n v) {v' : Bytes} (N : SameNames v v')
   lookup_same (x ∷ r) =
       let n = same_near p x N.top in
       let t = along_same r volume (volume_seen S) (volume_directory S) in
-      λ i. elim (n i) [ true ↦ t i | false ↦ noVolume ]
+      λ i. elim (n i) [ true ↦ t i | false ↦ no_volume ]
 
   pub target_same : (k : ℕ) → target v' p k ≡ target v p k
   target_same k = lookup_same (parts p k)

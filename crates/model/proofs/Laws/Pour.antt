@@ -17,9 +17,9 @@ use Rattle.model.proofs.BitLaws.{room_lowest}
 use Rattle.model.proofs.Laws.Frame.{Alike}
 use Rattle.model.proofs.Laws.Weigh.{Gauge, weigh, each, tardy, size as blocks, has_key}
 use Rattle.model.proofs.Laws.Move.{Fit, Move, move_none, move_fit, move_then, fit_some}
-use Rattle.model.proofs.Laws.Take.{Work, backed_work, Still, still_none, data-still}
+use Rattle.model.proofs.Laws.Take.{Work, backed_work, Still, still_none, data_still}
 use Rattle.model.proofs.Laws.Room.{move_room}
-use Rattle.model.proofs.Laws.Data.{still_data, grown_data, data-apart, file_hole, file_full, file_same, work_byte}
+use Rattle.model.proofs.Laws.Data.{still_data, grown_data, data_apart, file_hole, file_full, file_same, work_byte}
 use Rattle.model.proofs.Laws.Need.{miss, miss_hole, backed_complete, backed_aside, lacks, lacks_step, miss_lacks}
 
 -- the place of byte i in its block, where s is the first byte laid and e the end
@@ -49,7 +49,7 @@ module _ {n : ℕ} {w : Bytes} {h q k : ℕ} (F : Fit n w h q k) (p pos size : �
   laid_alike b d j l = paste_out w _ _ _ _ (λ x y. d (omega arith))
 
   laid_still : Still n w h q k new
-  laid_still = data-still n h q k p w new F (unfold laid in octets_paste w _ _ _ F.bytes (λ i l. octets _)) there laid_alike
+  laid_still = data_still n h q k p w new F (unfold laid in octets_paste w _ _ _ F.bytes (λ i l. octets _)) there laid_alike
 
   module _ (i : ℕ) (t : q ≡ above h p) where
     laid_in_law : i / 512 ≡ p → pos ≤ i → i < pos + size → file_byte new h k i ≡ buffer (i - pos)
@@ -70,7 +70,7 @@ module _ {n : ℕ} {w : Bytes} {h q k : ℕ} (F : Fit n w h q k) (p pos size : �
         file_full new h k i (λ z. d (sym same ∙ z))
         ∙ rw (same, e, x) (laid_out i (λ _ _. o e) (omega arith) (omega arith))
         ∙ sym (rw (e, x) at (file_full w h k i d)))
-        (λ e. file_same w h k new h k i same (λ d. laid_alike (data_block w h k (i / 512)) (λ z. data-apart F p (i / 512) t s (λ y. e (sym y)) there z)))
+        (λ e. file_same w h k new h k i same (λ d. laid_alike (data_block w h k (i / 512)) (λ z. data_apart F p (i / 512) t s (λ y. e (sym y)) there z)))
 
 -- The data of c file blocks from p on.
 pub record Poured (n e : ℕ) (w : Bytes) (h k : ℕ) (w' : Bytes) (p c pos : ℕ) (buffer : Bytes) (size : ℕ) : Type 0 where
@@ -200,7 +200,7 @@ zeroed {n} {w} {h} {q} {k} F e path = go (ltb e (span e * 512)) refl (eqb z 0) r
         let num : q ≡ above h (e / 512) = path (e / 512) (omega arith) in
         let x = clear w (z * 512 + e % 512) (512 - e % 512) in
         let alike : (b : ℕ) → (b ≡ z → ⊥) → Alike 512 w x b = λ b d j m. clear_out w _ _ _ (λ u y. d (omega arith)) in
-        let A : Still n w h q k x = data-still n h q k (e / 512) w x F (octets_clear w _ _ F.bytes) there alike in
+        let A : Still n w h q k x = data_still n h q k (e / 512) w x F (octets_clear w _ _ F.bytes) there alike in
         record {
           still = A;
           below = λ i m o.
@@ -211,7 +211,7 @@ zeroed {n} {w} {h} {q} {k} F e path = go (ltb e (span e * 512)) refl (eqb z 0) r
               file_full x h k i (λ y. d (sym same ∙ y))
               ∙ rw (same, f) (clear_out w _ _ _ (λ u y. omega arith))
               ∙ sym (rw f at (file_full w h k i d)))
-              (λ f. file_same w h k x h k i same (λ d. alike (data_block w h k (i / 512)) (λ y. data-apart F (e / 512) (i / 512) num o (λ g. f (sym g)) there y)));
+              (λ f. file_same w h k x h k i same (λ d. alike (data_block w h k (i / 512)) (λ y. data_apart F (e / 512) (i / 512) num o (λ g. f (sym g)) there y)));
           past = λ i a b.
               let f = here i a b in
               let same : data_block x h k (i / 512) ≡ z = rw f (still_data A (e / 512) num) in

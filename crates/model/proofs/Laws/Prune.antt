@@ -17,7 +17,7 @@ use Rattle.model.proofs.Laws.Weigh.{upto_eq, upto_zero, Gauge, arm, weigh, each,
 use Rattle.model.proofs.Laws.Move.{by_zero, Off, map_alike, pointer_off, pointer_at, pointer_other, octets_pointer, Fit, Move, move_none, move_fit, fit_off, fit_key, move_then, fit_below, lift, lift_kept, lift_part, lift_full, lift_weigh}
 use Rattle.model.proofs.Laws.Take.{first_le}
 use Rattle.model.proofs.Laws.Data.{when, spot, data_leaf, data_has, same_data, file_hole, file_full, file_same}
-use Rattle.model.proofs.Laws.Need.{data-hole, data-at}
+use Rattle.model.proofs.Laws.Need.{data_hole, data_at}
 use Rattle.model.proofs.Laws.Give.{Freed, freed_all, lowered_move, lowered_hole, lowered_full, heir_hole, heir_full, cleared_blank, heir_in}
 
 -- a gauge at the nodes before the end e
@@ -260,17 +260,17 @@ blank_byte zero k i w f =
     by_zero k (λ z. file_hole w 0 k i (unfold data_block in z))
     (λ p. file_full w 0 k i (λ t. unfold data_block in omega arith) ∙ (unfold data_block in f (i % 512) (omega arith)))
 blank_byte (suc h) k i w f =
-    file_hole w (suc h) k i (data-hole h k (i / 512) w (pointer_blank w k (above h (i / 512) % 256) f (omega arith)))
+    file_hole w (suc h) k i (data_hole h k (i / 512) w (pointer_blank w k (above h (i / 512) % 256) f (omega arith)))
 
 lowered_byte : {n : ℕ} {w : Bytes} {h k : ℕ} → Fit n w (suc h) 0 k → (i : ℕ) → 0 ≡ above h (i / 512)
     → file_byte (lowered map_place w h k) h (heir w k) i ≡ file_byte w (suc h) k i
 lowered_byte {w = w} {h} {k} F i s =
     at_or_off (pointer w k 0) 0
     (λ z. rw (lowered_hole F z, heir_hole F z)
-    (blank_byte h k i _ (cleared_blank F z) ∙ sym (file_hole w (suc h) k i (data-hole h k r w (rw digit z)))))
+    (blank_byte h k i _ (cleared_blank F z) ∙ sym (file_hole w (suc h) k i (data_hole h k r w (rw digit z)))))
     (λ full.
     let c = pointer w k 0 in
-    let down : data_block w (suc h) k r ≡ data_block w h c r = data-at h k r c w (rw digit refl) full in
+    let down : data_block w (suc h) k r ≡ data_block w h c r = data_at h k r c w (rw digit refl) full in
     rw (lowered_full F full, heir_full F full)
     (let same = same_data w h 0 c _ h 0 c r (λ b. weigh_same (spot r b) w _ h 0 c (heir_in F full)) s s in
     file_same w (suc h) k _ h c i (same ∙ sym down)

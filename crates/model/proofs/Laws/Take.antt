@@ -293,11 +293,11 @@ still_lift F il full A =
     }
 
 -- only the data block of the file block p changes
-pub data-still : (n h q k p : ℕ) (w w' : Bytes) → Fit n w h q k → Octets w' → (data_block w h k p ≡ 0 → ⊥)
+pub data_still : (n h q k p : ℕ) (w w' : Bytes) → Fit n w h q k → Octets w' → (data_block w h k p ≡ 0 → ⊥)
     → ((b : ℕ) → (b ≡ data_block w h k p → ⊥) → Alike 512 w w' b) → Still n w h q k w'
 unfolding data_block
-data-still n zero q k p w w' F s d f = still_base w' F s f
-data-still n (suc h) q k p w w' F s d f = go (eqb (pointer w k i) 0) refl d f (data-still n h (q * 256 + i) (pointer w k i) p w w')
+data_still n zero q k p w w' F s d f = still_base w' F s f
+data_still n (suc h) q k p w w' F s d f = go (eqb (pointer w k i) 0) refl d f (data_still n h (q * 256 + i) (pointer w k i) p w w')
   where
     i : ℕ
     i = above h p % 256

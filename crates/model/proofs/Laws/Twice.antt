@@ -10,7 +10,7 @@ use native.Mathlib.Omega.{arith}
 use borrow.Author.Tests.{ltb-true, ltb-false}
 use Rattle.model.specs.Bytes.{Bytes, sum, count, gather, is}
 use Rattle.model.specs.Names.{Part, same_name}
-use Rattle.model.specs.Directory.{directory, sort, is_directory, at, volume, key, used, chain, kids, seek, Target, noVolume, noDirectory, last, along, lookup}
+use Rattle.model.specs.Directory.{directory, sort, is_directory, at, volume, key, used, chain, kids, seek, Target, no_volume, no_directory, last, along, lookup}
 use Rattle.model.specs.File.{blocks}
 use Rattle.model.specs.Walk.{visits}
 use Rattle.model.specs.Sound.{faults, sound}
@@ -61,7 +61,7 @@ passed_along v p (x ∷ []) d e f = go (seek v p x (kids v d))
 passed_along v p (x ∷ y ∷ r) d e f = go (seek v p x (kids v d)) e f (passed_along v p (y ∷ r))
   where
     Deep : Option ℕ → Target
-    Deep o = elim o [ none ↦ noDirectory | some s ↦ elim (is_directory (sort v s)) [ true ↦ along v p s (y ∷ r) | false ↦ noDirectory ] ]
+    Deep o = elim o [ none ↦ no_directory | some s ↦ elim (is_directory (sort v s)) [ true ↦ along v p s (y ∷ r) | false ↦ no_directory ] ]
 
     Into : Option ℕ → List ℕ
     Into o = elim o [ none ↦ d ∷ [] | some s ↦ elim (is_directory (sort v s)) [ true ↦ d ∷ passed_from v p s (y ∷ r) | false ↦ d ∷ [] ] ]
@@ -73,9 +73,9 @@ passed_along v p (x ∷ y ∷ r) d e f = go (seek v p x (kids v d)) e f (passed_
     go none e f g = absurd (false≢true (sym f))
     go (some s) e f g = more (is_directory (sort v s)) e f
       where
-        more : (b : Bool) → is_no_volume (elim b [ true ↦ along v p s (y ∷ r) | false ↦ noDirectory ]) ≡ false
-            → is_no_directory (elim b [ true ↦ along v p s (y ∷ r) | false ↦ noDirectory ]) ≡ false
-            → 1 ≤ count (home (elim b [ true ↦ along v p s (y ∷ r) | false ↦ noDirectory ])) (elim b [ true ↦ d ∷ passed_from v p s (y ∷ r) | false ↦ d ∷ [] ])
+        more : (b : Bool) → is_no_volume (elim b [ true ↦ along v p s (y ∷ r) | false ↦ no_directory ]) ≡ false
+            → is_no_directory (elim b [ true ↦ along v p s (y ∷ r) | false ↦ no_directory ]) ≡ false
+            → 1 ≤ count (home (elim b [ true ↦ along v p s (y ∷ r) | false ↦ no_directory ])) (elim b [ true ↦ d ∷ passed_from v p s (y ∷ r) | false ↦ d ∷ [] ])
         more true e f = omega (arith, g s e f)
         more false e f = absurd (false≢true (sym f))
 
@@ -160,8 +160,8 @@ unfolding lookup passed is_no_volume
 home_passed v p [] e f = absurd (false≢true (sym e))
 home_passed v p (x ∷ r) e f = go (same_name v (at volume) p x) e f
   where
-    go : (b : Bool) → is_no_volume (elim b [ true ↦ along v p volume r | false ↦ noVolume ]) ≡ false
-        → is_no_directory (elim b [ true ↦ along v p volume r | false ↦ noVolume ]) ≡ false
-        → 1 ≤ count (home (elim b [ true ↦ along v p volume r | false ↦ noVolume ])) (elim b [ true ↦ passed_from v p volume r | false ↦ [] ])
+    go : (b : Bool) → is_no_volume (elim b [ true ↦ along v p volume r | false ↦ no_volume ]) ≡ false
+        → is_no_directory (elim b [ true ↦ along v p volume r | false ↦ no_volume ]) ≡ false
+        → 1 ≤ count (home (elim b [ true ↦ along v p volume r | false ↦ no_volume ])) (elim b [ true ↦ passed_from v p volume r | false ↦ [] ])
     go true e f = passed_along v p r volume e f
     go false e f = absurd (false≢true (sym e))

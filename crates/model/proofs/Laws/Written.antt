@@ -108,13 +108,13 @@ module _ {n : ℕ} {v : Bytes} {a d h : ℕ} (R : Ready n v a d h) (pos size : �
 
   pub wrote : write_need v a pos size ≡ needed → Wrote n v a (written map_place n v a pos buffer size t) pos size buffer
   unfolding written final
-  wrote is-need =
+  wrote is_need =
       let M = move_then G.move Q.move in
       let ends = Q.timely G.ends in
       record {
         done = called_done R M end t small refl ends;
-        takes = omega (arith, is-need, grown_by, was_used R, called_used R M end t small refl ends);
-        spends = omega (arith, is-need, grown_by, move_room (fit R) M, called_room R M end t small refl ends);
+        takes = omega (arith, is_need, grown_by, was_used R, called_used R M end t small refl ends);
+        spends = omega (arith, is_need, grown_by, move_room (fit R) M, called_room R M end t small refl ends);
         inside = λ i l m.
             called_byte R M end t small refl ends i ∙ Q.inside i (omega arith) (omega arith) l m;
         outside = λ i l o.
@@ -176,10 +176,10 @@ module _ (len : ℕ) (v p : Bytes) (k pos : ℕ) (buffer : Bytes) (size : ℕ) (
       go h R start most enough true z = rw (eqb-true size 0 z) (nothing_done (total len) (home (target v p k)) h R start)
       go h R start most enough false z =
           let some = eqb-false size 0 z in
-          let need-is : write_need v a pos size ≡ need v h (key v a) (height_for (max (eof v a) (pos + size))) (pos / 512) (touched pos size) =
+          let need_is : write_need v a pos size ≡ need v h (key v a) (height_for (max (eof v a) (pos + size))) (pos / 512) (touched pos size) =
           unfold write_need in rw (z, write_need) (rw R.kind refl) in
           rw R.sound.place
-          (wrote R pos size buffer lent t (omega arith) (omega arith) (rw (R.sound.place, need-is) at enough) need-is)
+          (wrote R pos size buffer lent t (omega arith) (omega arith) (rw (R.sound.place, need_is) at enough) need_is)
 
   pub write_opened : (write len v p k pos buffer size t).number ≡ 0 → Opened len v p k
   unfolding write settle write_number

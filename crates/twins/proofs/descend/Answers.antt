@@ -42,14 +42,14 @@ module _ (f : Bytes) (xs : List ℕ) (k : ℕ) (l r : Bytes) (node i : ℕ) (o :
     so_far : (e : ℕ) → e < i + 1 → alike f (get_or xs (walk l r (key_of f xs k) e) 0) (get_or xs k 0) ≡ false
     so_far e h = at_or_off e i (λ p. rw (p, o.there) (sym other ∙ no)) (λ q. o.unlike e (omega (arith, q)))
 
-    child-at : {e : ℕ} → e ≡ i → child l r (key_of f xs k e) (walk l r (key_of f xs k) e) ≡ next
-    child-at u = rw (u, o.there, ← side) (sym is)
+    child_at : {e : ℕ} → e ≡ i → child l r (key_of f xs k e) (walk l r (key_of f xs k) e) ≡ next
+    child_at u = rw (u, o.there, ← side) (sym is)
 
     ends : next ≡ 0 → Lands f xs k l r record { twin = false; node = node; bit = b }
     ends z = record {
       inside = o.inside;
       found = λ w. absurd (false≢true w);
-      alone = λ _. none_before f xs k l r i tree (child-at refl ∙ z) (λ e h. so_far e (omega arith));
+      alone = λ _. none_before f xs k l r i tree (child_at refl ∙ z) (λ e h. so_far e (omega arith));
       way = λ _. (i, o.alive, o.there, sym side);
       free = λ _. sym is ∙ z;
     }
@@ -61,8 +61,8 @@ module _ (f : Bytes) (xs : List ℕ) (k : ℕ) (l r : Bytes) (node i : ℕ) (o :
       record {
         inside = step.1;
         late = omega (arith, o.late, step.0);
-        alive = λ e h w. at_or_off e i (λ u. z (sym (child-at u) ∙ w)) (λ v. o.alive e (omega (arith, v)) w);
-        there = rw add-one (child-at refl);
+        alive = λ e h w. at_or_off e i (λ u. z (sym (child_at u) ∙ w)) (λ v. o.alive e (omega (arith, v)) w);
+        there = rw add-one (child_at refl);
         unlike = so_far;
       },
     )
