@@ -71,6 +71,7 @@ struct Forms {
     bytes: [u8; 6],
 }
 
+#[tactic(auto, unfolding(crate::specs::Commands::named))]
 fn look_of(line: &[u8], end: usize) -> Command
     ensures { result ≡ look_from (view line.now) (length line.now) end }
 {
@@ -102,6 +103,7 @@ fn look_of(line: &[u8], end: usize) -> Command
 }
 
 // The command of a line whose word ends at `end`.
+#[tactic(auto, unfolding(crate::specs::Commands::named))]
 fn command_of(line: &[u8], end: usize) -> Command
     ensures { result ≡ change_from (view line.now) (length line.now) end }
 {

@@ -48,6 +48,7 @@ pub fn reserve(seen: &mut [u8], n: usize)
 }
 
 // Claims the chain of `used` blocks from `key` on: each names the one before it, and the last has none after it.
+#[tactic(auto, using(crate::proofs::Laws::on_volume))]
 pub fn claim_chain(img: &[u8], seen: &mut [u8], key: usize, used: usize, n: usize) -> bool
     requires { (n ≤ 65535) × (length seen.old ≡ 8192) × (length img.now ≡ n * 512) }
     ensures { outcome result (marks seen.new) ≡ claim n (chain_claims (view img.now) 0 key used) (marks seen.old) }

@@ -3,7 +3,7 @@ use mathlib.Core.Path.{refl, ◌∙◌}
 use native.Mathlib.Omega.{arith}
 use Rattle.model.specs.Bytes.{view}
 use Rattle.marks.specs.Marks.{marks}
-use Rattle.marks.proofs.Laws.{on_volume, chain_refused, chain_broken, chain_on, chain_done}
+use Rattle.marks.proofs.Laws.{chain_refused, chain_broken, chain_on, chain_done}
 use Rattle.marks.proofs.claim_chain.Goals as goal
 
 pub loop-left-init : goal.loop-left-init
@@ -19,24 +19,6 @@ returns-then-not-claim_block c =
     k.ensures c.if-not-claim_block.true
     ∙ l.invariant.1
 
-pub overflow_mul-b : goal.overflow_mul-b
-overflow_mul-b c =
-    let a = c.args in
-    let l = c.loop-left in
-    let k = c.claim_block in
-    let v = view a.img.now in
-    let on = on_volume a.n l.b (marks l.seen) (marks k.new.seen) k.result c.if-not-claim_block.false k.ensures in
-    omega arith
-
-pub get_word-requires : goal.get_word-requires
-get_word-requires c =
-    let a = c.args in
-    let l = c.loop-left in
-    let k = c.claim_block in
-    let v = view a.img.now in
-    let on = on_volume a.n l.b (marks l.seen) (marks k.new.seen) k.result c.if-not-claim_block.false k.ensures in
-    omega arith
-
 pub returns-then-get_word-previous : goal.returns-then-get_word-previous
 returns-then-get_word-previous c =
     let a = c.args in
@@ -47,33 +29,6 @@ returns-then-get_word-previous c =
     chain_broken a.n v l.previous l.b l.left (marks l.seen) (marks k.new.seen) k.result c.loop-left-test.true
     k.ensures w.result w.ensures.value c.if-get_word-previous.true c.if-not-claim_block.false
     ∙ l.invariant.1
-
-pub overflow_mul-b-in-loop-left : goal.overflow_mul-b-in-loop-left
-overflow_mul-b-in-loop-left c =
-    let a = c.args in
-    let l = c.loop-left in
-    let k = c.claim_block in
-    let v = view a.img.now in
-    let on = on_volume a.n l.b (marks l.seen) (marks k.new.seen) k.result c.if-not-claim_block.false k.ensures in
-    omega arith
-
-pub overflow_add-b : goal.overflow_add-b
-overflow_add-b c =
-    let a = c.args in
-    let l = c.loop-left in
-    let k = c.claim_block in
-    let v = view a.img.now in
-    let on = on_volume a.n l.b (marks l.seen) (marks k.new.seen) k.result c.if-not-claim_block.false k.ensures in
-    omega arith
-
-pub get_word-b-requires : goal.get_word-b-requires
-get_word-b-requires c =
-    let a = c.args in
-    let l = c.loop-left in
-    let k = c.claim_block in
-    let v = view a.img.now in
-    let on = on_volume a.n l.b (marks l.seen) (marks k.new.seen) k.result c.if-not-claim_block.false k.ensures in
-    omega arith
 
 pub loop-left-preserved : goal.loop-left-preserved
 loop-left-preserved c =

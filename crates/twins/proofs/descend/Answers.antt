@@ -112,13 +112,12 @@ returns-then-next-eq0 c =
     c.child_of-next.ensures
     c.if-next-eq0.true
 
-pub overflow_add-i : goal.overflow_add-i
-overflow_add-i c = let o = c.loop-node.invariant in omega (arith, o.inside, o.late, c.ranges.k)
-
-pub loop-node-smaller : goal.loop-node-smaller
-loop-node-smaller c =
+-- a turn that goes on
+again : (c : goal.Else-next-eq0)
+    → (c.loop-node.node < c.child_of-next.result)
+    × On (view c.args.img.now) c.args.places.now c.args.k (view c.args.left.now) (view c.args.right.now) c.child_of-next.result (c.loop-node.i + 1)
+again c =
     let o = c.loop-node in
-    let g : (o.node < c.child_of-next.result) × On (view c.args.img.now) c.args.places.now c.args.k (view c.args.left.now) (view c.args.right.now) c.child_of-next.result (o.i + 1) =
     goes (view c.args.img.now) c.args.places.now c.args.k (view c.args.left.now) (view c.args.right.now) o.node o.i o.invariant
     c.same_at.result
     c.same_at.ensures
@@ -128,22 +127,16 @@ loop-node-smaller c =
     c.bit_at-bit.ensures
     c.child_of-next.result
     c.child_of-next.ensures
-    c.if-next-eq0.false in
-    omega (arith, g.0, g.1.inside)
+    c.if-next-eq0.false
+
+pub overflow_add-i : goal.overflow_add-i
+overflow_add-i c = let o = c.loop-node.invariant in omega (arith, o.inside, o.late, c.ranges.k)
+
+pub loop-node-smaller : goal.loop-node-smaller
+loop-node-smaller c = let g = again c in omega (arith, g.0, g.1.inside)
 
 pub loop-node-preserved : goal.loop-node-preserved
-loop-node-preserved c =
-    let o = c.loop-node in
-    (goes (view c.args.img.now) c.args.places.now c.args.k (view c.args.left.now) (view c.args.right.now) o.node o.i o.invariant
-    c.same_at.result
-    c.same_at.ensures
-    c.if-same_at.false
-    c.requires.tree
-    c.bit_at-bit.result
-    c.bit_at-bit.ensures
-    c.child_of-next.result
-    c.child_of-next.ensures
-    c.if-next-eq0.false).1
+loop-node-preserved c = (again c).1
 
 pub returns : goal.returns
 returns c = absurd (let w : ⊥ = omega (arith, c.loop-node.invariant.inside, c.loop-node-test.false) in w)
