@@ -1,22 +1,22 @@
 -- What the commands share that change the image: what was done and said as what a command leaves. Assumes nothing.
+use Rattle.std.specs.Prelude.{Result}
+use Rattle.model.specs.declared.Refusal.{Refusal}
 use Prim.Native.Nat.{ℕ, ◌+◌, ◌-◌, ◌≤◌, ◌<◌}
 use mathlib.Core.Path.{◌≡◌, refl, ap, subst}
 use mathlib.Core.List.{List, [], ◌∷◌}
-use mathlib.Core.Bool.{true, false}
+use mathlib.Core.Bool.{true}
 use lib.ListN.{length, take, drop}
 use borrow.Author.Tests.{le-leb, lt-leb}
 use Rattle.model.specs.Bytes.{Bytes, view, paste}
 use Rattle.model.specs.declared.Stamp.{Stamp}
 use Rattle.model.specs.Refusals.{Outcome}
 use Rattle.model.specs.Calls.{Nothing}
-use Rattle.model.specs.Answers.{Does, Writes, answer_number, transfer_number, transferred}
-use Rattle.model.specs.declared.Answer.{Answer}
-use Rattle.model.specs.declared.Transfer.{Transfer}
+use Rattle.model.specs.Answers.{Does, Writes, answer_number, transferred}
 use Rattle.ink.specs.Ink.{Sheet, sheet}
 use Rattle.ink.specs.declared.Ink.{Ink}
 use Rattle.ink.proofs.InkLaws.{prints_as}
 use Rattle.replies.specs.Lines.{ok_line, reply, number}
-use Rattle.lines.specs.declared.Said.{Said}
+use Rattle.std.specs.Prelude.{Option, None}
 use Rattle.lines.specs.Commands.{cut, held}
 use Rattle.lines.specs.Left.{Leaves, Says}
 use Rattle.lines.proofs.PartLaws.{text_as}
@@ -32,7 +32,7 @@ stamped_as P vs ts i h e p =
     (subst (λ (x : Stamp). P (view (take (view vs 0 - 0) (drop 0 ts))) (length (take (view vs 0 - 0) (drop 0 ts))) x) e p)
 
 -- A call was done or refused, and said.
-pub does_leaves : {o : Outcome Nothing} {n : ℕ} {a : Answer} {s : Sheet} {r : Said} {l p : List ℕ} (vs ts bs : List ℕ) → Does o n a l
+pub does_leaves : {o : Outcome Nothing} {n : ℕ} {a : Result (Unit {0}) Refusal} {s : Sheet} {r : Option Ink} {l p : List ℕ} (vs ts bs : List ℕ) → Does o n a l
     → Says true (reply (answer_number a) (ok_line [] [])) s r p → Leaves (answered (held vs ts bs) o) s r l bs p
 does_leaves vs ts bs d t =
     record {
@@ -43,8 +43,8 @@ does_leaves vs ts bs d t =
     }
 
 -- Bytes g of a buffer were written, and it is said how many.
-pub writes_leaves : (o : Bytes → Outcome ℕ) (b : List ℕ) {g : Bytes} {n : ℕ} {t : Transfer} {s : Sheet} {r : Said} {l p : List ℕ} → view b ≡ g
-    → Writes (o (view b)) n t l → Says true (reply (transfer_number t) (ok_line (number ∷ []) (transferred t ∷ []))) s r p → Leaves (moved (o g) g) s r l b p
+pub writes_leaves : (o : Bytes → Outcome ℕ) (b : List ℕ) {g : Bytes} {n : ℕ} {t : Result ℕ Refusal} {s : Sheet} {r : Option Ink} {l p : List ℕ} → view b ≡ g
+    → Writes (o (view b)) n t l → Says true (reply (answer_number t) (ok_line (number ∷ []) (transferred t ∷ []))) s r p → Leaves (moved (o g) g) s r l b p
 writes_leaves o b {g} {n} {t} {s} {r} {l} {p} e w q =
     subst (λ (x : Bytes). Leaves (moved (o x) x) s r l b p) e
     (record {
@@ -55,8 +55,8 @@ writes_leaves o b {g} {n} {t} {s} {r} {l} {p} e w q =
     })
 
 -- Bytes that do not lie in the image, and bytes that do.
-module _ (n : ℕ) (g : Bytes) (vs bs : List ℕ) {r : Said} {p : List ℕ} where
-  pub laid_bad : (img : List ℕ) {k : Ink} → r ≡ record { ink = k; good = false } → n < view vs 0 + view vs 1
+module _ (n : ℕ) (g : Bytes) (vs bs : List ℕ) {r : Option Ink} {p : List ℕ} where
+  pub laid_bad : (img : List ℕ) {k : Ink} → r ≡ None → n < view vs 0 + view vs 1
       → Leaves (laid_in n (view img) (held vs [] bs) g) (sheet k p) r img bs p
   unfolding laid_in
   laid_bad img e h = if_not _ _ _ (lt-leb (view vs 0 + view vs 1) n h) (none_leaves e)

@@ -1,6 +1,6 @@
 -- The commands of a script that change the image, as docs/REPLAY.md has them: each with its fields f, on an image v of n bytes and with a
 -- buffer of m bytes.
-use Rattle.std.specs.Prelude.{ℕ, ◌+◌, [], ◌∷◌, true, false, leb}
+use Rattle.std.specs.Prelude.{ℕ, ◌+◌, ◌≡◌, List, [], ◌∷◌, true, false, leb, length}
 use Rattle.model.specs.Bytes.{Bytes, paste, same}
 use Rattle.model.specs.Refusals.{Outcome}
 use Rattle.model.specs.Calls.{Nothing}
@@ -18,7 +18,8 @@ use Rattle.lines.specs.declared.Call.{Call}
 use Rattle.lines.specs.declared.Call.TheVariants as call
 use Rattle.lines.specs.declared.Change.{Change}
 use Rattle.lines.specs.declared.Change.TheVariants as change
-use Rattle.lines.specs.Commands.{cut, first_text}
+use Rattle.lines.specs.declared.Command.TheVariants as command
+use Rattle.lines.specs.Commands.{cut, first_text, Fitting}
 use Rattle.lines.specs.Left.{Left, bad_left}
 
 -- the stamp of fields i and i + 1
@@ -52,6 +53,12 @@ ended n v f = set_eof n v (first_text f) (f.values 0) (f.values 1) (stamp_of f 2
 -- `write PATH POSITION DATE TIME DATA`, with the first bytes of a buffer
 abbrev pub written : ℕ → Bytes → Fields → Bytes → Outcome ℕ
 written n v f b = write n v (first_text f) (f.values 0) (f.values 1) (cut b 0 (f.values 4)) (f.values 4) (stamp_of f 2)
+
+-- The fields of a call: values within what its forms allow, and the room of its texts. No call has data, so the size m of a buffer bounds none.
+pub record Asks (k : Call) (vs ts : List ℕ) : Type 0 where
+  pub m : ℕ
+  pub values : Fitting (command.Change (change.Call k)) m vs
+  pub room : length ts ≡ 256
 
 -- the calls by their names
 unfoldable pub called : Call → ℕ → Bytes → Fields → Outcome Nothing

@@ -1,21 +1,21 @@
 // The commands of a script that change the image: the calls that change the volume, and raw bytes. Their fields have been read.
 #![tactic(auto)]
 
-ghost use Rattle.std.specs.Prelude.{◌≡◌, true, List, [], ◌∷◌, ℕ, ◌+◌, ◌≤◌, ◌<◌, length};
+ghost use Rattle.std.specs.Prelude.{◌≡◌, List, [], ℕ, ◌+◌, ◌≤◌, ◌<◌, length};
 ghost use Rattle.model.specs.Bytes.{view, same};
-ghost use Rattle.model.specs.Answers.{Does, Writes, answer_number, transfer_number, transferred};
+ghost use Rattle.model.specs.Answers.{Does, Writes};
 ghost use Rattle.ink.specs.Ink.{sheet};
-ghost use Rattle.replies.specs.Lines.{ok_line, reply, number};
+ghost use Rattle.lines.specs.declared.Call.TheVariants as call;
 ghost use Rattle.lines.specs.declared.Change.TheVariants as change;
 ghost use Rattle.lines.specs.declared.Command.TheVariants as command;
 ghost use Rattle.lines.specs.Commands.{Fitting, held};
-ghost use Rattle.lines.specs.Left.{Leaves, Says};
-ghost use Rattle.changes.specs.Changes.{formatted, created, destroyed, renamed, informed, ended, called, written, filled, laid_in, changed};
+ghost use Rattle.lines.specs.Left.{Leaves};
+ghost use Rattle.changes.specs.Changes.{Asks, formatted, created, destroyed, renamed, informed, ended, called, written, filled, laid_in, changed};
 
 use ink::Ink;
-use lines::{Call, Change, Said};
-use model::{Answer, Stamp, Transfer};
-use script::FIELDS;
+use lines::{Call, Change};
+use model::{Refusal, Stamp};
+use script::{FIELDS, TEXT};
 
 // The stamp of two fields.
 fn stamp_of(values: &[usize; FIELDS], i: usize) -> Stamp
@@ -29,80 +29,75 @@ fn stamp_of(values: &[usize; FIELDS], i: usize) -> Stamp
 }
 
 // Each call with its fields.
-fn format(img: &mut [u8], values: &[usize; FIELDS], room: &[u8]) -> Answer
-    requires { (length room.now ≡ 256) × (view values.now 0 ≤ 128) × (view values.now 1 ≤ 65535) × (view values.now 2 ≤ 65535) }
+fn format(img: &mut [u8], values: &[usize; FIELDS], room: &[u8]) -> Result<(), Refusal>
+    requires { Asks call.Format values.now room.now }
     ensures { Does (formatted (length img.old) (view img.old) (held values.now room.now [])) (length img.old) result img.new }
 {
-    let size = values[0];
-    let stamp = stamp_of(values, 1);
-    format::format(img, &room[0..size], stamp)
+    format::format(img, &room[0..values[0]], stamp_of(values, 1))
 }
 
-fn create(img: &mut [u8], values: &[usize; FIELDS], room: &[u8]) -> Answer
-    requires { (length room.now ≡ 256) × (view values.now 0 ≤ 128) × (view values.now 1 ≤ 255) × (view values.now 2 ≤ 255) × (view values.now 3 ≤ 65535) × (view values.now 4 ≤ 65535) × (view values.now 5 ≤ 65535) }
+fn create(img: &mut [u8], values: &[usize; FIELDS], room: &[u8]) -> Result<(), Refusal>
+    requires { Asks call.Create values.now room.now }
     ensures { Does (created (length img.old) (view img.old) (held values.now room.now [])) (length img.old) result img.new }
 {
-    let size = values[0];
     let kind = values[1] as u8;
     let ftype = values[2] as u8;
     let aux = values[3] as u16;
     let stamp = stamp_of(values, 4);
-    create::create(img, &room[0..size], kind, ftype, aux, stamp)
+    create::create(img, &room[0..values[0]], kind, ftype, aux, stamp)
 }
 
-fn destroy(img: &mut [u8], values: &[usize; FIELDS], room: &[u8]) -> Answer
-    requires { (length room.now ≡ 256) × (view values.now 0 ≤ 128) }
+fn destroy(img: &mut [u8], values: &[usize; FIELDS], room: &[u8]) -> Result<(), Refusal>
+    requires { Asks call.Destroy values.now room.now }
     ensures { Does (destroyed (length img.old) (view img.old) (held values.now room.now [])) (length img.old) result img.new }
 {
-    let size = values[0];
-    destroy::destroy(img, &room[0..size])
+    destroy::destroy(img, &room[0..values[0]])
 }
 
-fn rename(img: &mut [u8], values: &[usize; FIELDS], room: &[u8]) -> Answer
-    requires { (length room.now ≡ 256) × (view values.now 0 ≤ 128) × (view values.now 1 ≤ 128) }
+fn rename(img: &mut [u8], values: &[usize; FIELDS], room: &[u8]) -> Result<(), Refusal>
+    requires { Asks call.Rename values.now room.now }
     ensures { Does (renamed (length img.old) (view img.old) (held values.now room.now [])) (length img.old) result img.new }
 {
-    let size = values[0];
-    let start = script::TEXT;
-    let end = start + values[1];
-    rename::rename(img, &room[0..size], &room[start..end])
+    let end = TEXT + values[1];
+    rename::rename(img, &room[0..values[0]], &room[TEXT..end])
 }
 
-fn set_info(img: &mut [u8], values: &[usize; FIELDS], room: &[u8]) -> Answer
-    requires { (length room.now ≡ 256) × (view values.now 0 ≤ 128) × (view values.now 1 ≤ 255) × (view values.now 2 ≤ 65535) × (view values.now 3 ≤ 65535) × (view values.now 4 ≤ 65535) }
+fn set_info(img: &mut [u8], values: &[usize; FIELDS], room: &[u8]) -> Result<(), Refusal>
+    requires { Asks call.SetInfo values.now room.now }
     ensures { Does (informed (length img.old) (view img.old) (held values.now room.now [])) (length img.old) result img.new }
 {
-    let size = values[0];
     let access = values[1] as u8;
     let aux = values[2] as u16;
     let stamp = stamp_of(values, 3);
-    set_info::set_info(img, &room[0..size], access, aux, stamp)
+    set_info::set_info(img, &room[0..values[0]], access, aux, stamp)
 }
 
-fn set_eof(img: &mut [u8], values: &[usize; FIELDS], room: &[u8]) -> Answer
-    requires { (length room.now ≡ 256) × (view values.now 0 ≤ 128) × (view values.now 2 ≤ 65535) × (view values.now 3 ≤ 65535) }
+fn set_eof(img: &mut [u8], values: &[usize; FIELDS], room: &[u8]) -> Result<(), Refusal>
+    requires { Asks call.SetEof values.now room.now }
     ensures { Does (ended (length img.old) (view img.old) (held values.now room.now [])) (length img.old) result img.new }
 {
-    let size = values[0];
-    let eof = values[1];
     let stamp = stamp_of(values, 2);
-    resize::set_eof(img, &room[0..size], eof, stamp)
+    resize::set_eof(img, &room[0..values[0]], values[1], stamp)
 }
 
-// The call write, with the first bytes of the buffer.
-fn write(img: &mut [u8], values: &[usize; FIELDS], room: &[u8], buffer: &[u8]) -> Transfer
+// The call write, with the first bytes of the buffer. Its bounds are written out, since its fields come in the forms of `write` and of `fill`.
+fn write(
+    img: &mut [u8],
+    values: &[usize; FIELDS],
+    room: &[u8],
+    buffer: &[u8],
+) -> Result<usize, Refusal>
     requires { (length room.now ≡ 256) × (view values.now 0 ≤ 128) × (view values.now 2 ≤ 65535) × (view values.now 3 ≤ 65535) × (view values.now 4 ≤ length buffer.now) }
     ensures { Writes (written (length img.old) (view img.old) (held values.now room.now []) (view buffer.now)) (length img.old) result img.new }
 {
-    let size = values[0];
-    let position = values[1];
-    let count = values[4];
+    let bytes = &buffer[0..values[4]];
     let stamp = stamp_of(values, 2);
-    write::write(img, &room[0..size], position, &buffer[0..count], stamp)
+    write::write(img, &room[0..values[0]], values[1], bytes, stamp)
 }
 
-fn call(call: Call, img: &mut [u8], values: &[usize; FIELDS], room: &[u8]) -> Answer
-    requires { (length room.now ≡ 256) × ((m : ℕ) × Fitting (command.Change (change.Call call)) m values.now) }
+#[tactic(auto, unfolding(crate::specs::Changes::called))]
+fn call(call: Call, img: &mut [u8], values: &[usize; FIELDS], room: &[u8]) -> Result<(), Refusal>
+    requires { Asks call values.now room.now }
     ensures { (bs : List ℕ) → Does (called call (length img.old) (view img.old) (held values.now room.now bs)) (length img.old) result img.new }
 {
     match call {
@@ -115,25 +110,6 @@ fn call(call: Call, img: &mut [u8], values: &[usize; FIELDS], room: &[u8]) -> An
     }
 }
 
-// What a call answered, said on the page.
-fn say_answer(page: &mut [u8], ink: Ink, answer: Answer) -> Said
-    ensures { Says true (reply (answer_number answer) (ok_line [] [])) (sheet ink page.old) result page.new }
-{
-    Said {
-        ink: replies::say_answer(page, ink, answer),
-        good: true,
-    }
-}
-
-fn say_transfer(page: &mut [u8], ink: Ink, transfer: Transfer) -> Said
-    ensures { Says true (reply (transfer_number transfer) (ok_line (number ∷ []) (transferred transfer ∷ []))) (sheet ink page.old) result page.new }
-{
-    Said {
-        ink: replies::say_transfer(page, ink, transfer),
-        good: true,
-    }
-}
-
 // The call write with equal bytes; a line that asks for more than the buffer holds is bad.
 fn fill(
     img: &mut [u8],
@@ -142,49 +118,56 @@ fn fill(
     buffer: &mut [u8],
     page: &mut [u8],
     ink: Ink,
-) -> Said
-    requires { (length room.now ≡ 256) × (view values.now 0 ≤ 128) × (view values.now 2 ≤ 65535) × (view values.now 3 ≤ 65535) × (view values.now 5 ≤ 255) }
+) -> Option<Ink>
+    requires { (Fitting (command.Change change.Fill) (length buffer.old) values.now) × (length room.now ≡ 256) }
     ensures { Leaves (filled (length img.old) (view img.old) (length buffer.old) (held values.now room.now buffer.old)) (sheet ink page.old) result img.new buffer.new page.new }
 {
     let count = values[4];
     if buffer.len() < count {
-        return Said { ink, good: false };
+        return None;
     }
     let byte = values[5] as u8;
     store::fill_run(buffer, 0, count, byte);
     let transfer = write(img, values, room, buffer);
-    say_transfer(page, ink, transfer)
+    Some(replies::say_transfer(page, ink, transfer))
 }
 
 // Bytes of the buffer, at an address of the image; a line that leaves the image is bad.
-fn set(img: &mut [u8], values: &[usize; FIELDS], buffer: &[u8], page: &mut [u8], ink: Ink) -> Said
-    requires { (view values.now 0 ≤ 4294967295) × (view values.now 1 ≤ length buffer.now) }
+fn set(
+    img: &mut [u8],
+    values: &[usize; FIELDS],
+    buffer: &[u8],
+    page: &mut [u8],
+    ink: Ink,
+) -> Option<Ink>
+    requires { Fitting (command.Change change.Set) (length buffer.now) values.now }
     ensures { Leaves (laid_in (length img.old) (view img.old) (held values.now [] buffer.now) (view buffer.now)) (sheet ink page.old) result img.new buffer.now page.new }
 {
     let address = values[0];
     let count = values[1];
     if img.len() < address + count {
-        return Said { ink, good: false };
+        return None;
     }
     store::copy_run(img, address, buffer, 0, count);
-    say_answer(page, ink, Answer::Done)
+    Some(replies::say_answer(page, ink, Ok(())))
 }
 
-// Equal bytes there.
-fn set_run(img: &mut [u8], values: &[usize; FIELDS], page: &mut [u8], ink: Ink) -> Said
+// Equal bytes there. It is no one function with `set`: a closure for the bytes that are put down would be longer than what both share.
+fn set_run(img: &mut [u8], values: &[usize; FIELDS], page: &mut [u8], ink: Ink) -> Option<Ink>
     requires { (view values.now 0 ≤ 4294967295) × (view values.now 1 ≤ 4294967295) × (view values.now 2 ≤ 255) }
     ensures { (bs : List ℕ) → Leaves (laid_in (length img.old) (view img.old) (held values.now [] bs) (same (view values.now 2))) (sheet ink page.old) result img.new bs page.new }
 {
     let address = values[0];
     let count = values[1];
     if img.len() < address + count {
-        return Said { ink, good: false };
+        return None;
     }
     store::fill_run(img, address, count, values[2] as u8);
-    say_answer(page, ink, Answer::Done)
+    Some(replies::say_answer(page, ink, Ok(())))
 }
 
 // A command whose fields are good.
+#[tactic(auto, unfolding(crate::specs::Changes::changed, crate::specs::Changes::laid_in))]
 pub fn run(
     change: Change,
     img: &mut [u8],
@@ -193,13 +176,13 @@ pub fn run(
     buffer: &mut [u8],
     page: &mut [u8],
     ink: Ink,
-) -> Said
+) -> Option<Ink>
     requires { (Fitting (command.Change change) (length buffer.old) values.now) × (length room.now ≡ 256) }
     ensures { Leaves (changed change (length img.old) (view img.old) (length buffer.old) (held values.now room.now buffer.old)) (sheet ink page.old) result img.new buffer.new page.new }
 {
     match change {
-        Change::Call(asked) => say_answer(page, ink, call(asked, img, values, room)),
-        Change::Write => say_transfer(page, ink, write(img, values, room, buffer)),
+        Change::Call(asked) => Some(replies::say_answer(page, ink, call(asked, img, values, room))),
+        Change::Write => Some(replies::say_transfer(page, ink, write(img, values, room, buffer))),
         Change::Fill => fill(img, values, room, buffer, page, ink),
         Change::Set => set(img, values, buffer, page, ink),
         Change::SetRun => set_run(img, values, page, ink),

@@ -15,7 +15,7 @@ use Rattle.model.specs.Sound.{twins_of, twins}
 use Rattle.model.proofs.Laws.Frame.{chain_length, slots_length}
 use Rattle.twins.specs.Twins.{Stored, alone, no_twins}
 use Rattle.checks.specs.Inside.{Inside, ahead, actives}
-use Rattle.checks.proofs.Laws.{none_in, run_step, run_end, slot_in, no_slots}
+use Rattle.checks.proofs.Laws.{none_in, run_step, run_end, slot_in, no_slots, slots_next}
 
 none_if : (t : Bool) → eqb (one_if t) 0 ≡ not t
 none_if true = refl
@@ -86,6 +86,11 @@ module _ (v : Bytes) where
   pub actives_ahead : (s b after : ℕ)
       → actives v (ahead v s b after) ≡ actives v (run s (b * 13 + 13 - s)) ++ actives v (slots (chain v (next v b) after))
   actives_ahead s b after = actives_append (run s (b * 13 + 13 - s)) (slots (chain v (next v b) after))
+
+  -- those of a chain's first block, and of the blocks that follow
+  pub actives_next : (n b left c k : ℕ) → c ≡ next v b → k ≡ left - 1 → 0 < left
+      → actives v (slots (chain v b left)) ≡ actives v (run (b * 13) (b * 13 + 13 - b * 13)) ++ actives v (slots (chain v c k))
+  actives_next n b left c k p q l = rw (slots_next v n b left c k p q l) (actives_append (run (b * 13) (b * 13 + 13 - b * 13)) (slots (chain v c k)))
 
 -- Their slots lie in the image.
 stored_append : (z : ℕ) (xs ys : List ℕ) → Stored z xs → Stored z ys → Stored z (xs ++ ys)

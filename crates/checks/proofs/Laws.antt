@@ -1,7 +1,7 @@
 -- Slots one at a time and block by block: which are ahead, how many are active, which names are alike. No fault in a sum is none in each part. Assumes nothing.
-use mathlib.Core.Path.{◌≡◌, refl, ap, ◌∙◌}
+use mathlib.Core.Path.{◌≡◌, refl, sym, ap, ◌∙◌}
 use mathlib.Core.List.{List, [], ◌∷◌, ◌++◌}
-use mathlib.Core.Bool.{Bool, true, false, not}
+use mathlib.Core.Bool.{Bool, true, false, not, false≢true}
 use Prim.Native.Nat.{ℕ, zero, suc, ◌+◌, ◌-◌, ◌*◌, ◌/◌, ◌≤◌, ◌<◌}
 use native.Mathlib.Numerals.{add-one}
 use native.Mathlib.Omega.{arith}
@@ -24,6 +24,38 @@ pub and_false : (t : Bool) → t and false ≡ false
 unfolding ◌and◌
 and_false true = refl
 and_false false = refl
+
+-- Tests one after the other: v is two of them, the second made only if the first holds.
+pub second_if : (v a b : Bool) → a ≡ true → v ≡ b → v ≡ (a and b)
+unfolding ◌and◌
+second_if v a b h e = rw h e
+
+pub second_not : (v a b : Bool) → a ≡ false → v ≡ a → v ≡ (a and b)
+unfolding ◌and◌
+second_not v a b h e = rw (e, h)
+
+-- v is two or three of them; then comes one more
+pub third_if : (v a b c : Bool) → v ≡ (a and b) → v ≡ true → c ≡ (a and b and c)
+unfolding ◌and◌
+third_if v true true c e h = refl
+third_if v true false c e h = absurd (false≢true (sym e ∙ h))
+third_if v false b c e h = absurd (false≢true (sym e ∙ h))
+
+pub third_not : (v a b c : Bool) → v ≡ (a and b) → v ≡ false → v ≡ (a and b and c)
+unfolding ◌and◌
+third_not v true true c e h = absurd (false≢true (sym h ∙ e))
+third_not v true false c e h = h
+third_not v false b c e h = h
+
+pub fourth_if : (v a b c d : Bool) → v ≡ (a and b and c) → v ≡ true → d ≡ (a and b and c and d)
+unfolding ◌and◌
+fourth_if v true b c d e h = third_if v b c d e h
+fourth_if v false b c d e h = absurd (false≢true (sym e ∙ h))
+
+pub fourth_not : (v a b c d : Bool) → v ≡ (a and b and c) → v ≡ false → v ≡ (a and b and c and d)
+unfolding ◌and◌
+fourth_not v true b c d e h = third_not v b c d e h
+fourth_not v false b c d e h = h
 
 pub none_in : (a b : ℕ) → eqb (a + b) 0 ≡ (eqb a 0 and eqb b 0)
 unfolding ◌and◌
@@ -74,6 +106,10 @@ module _ (v : Bytes) where
   pub inside_chain : (n b left : ℕ) → 0 < left → Inside n (chain v b left) → (b < n) × Inside n (chain v (next v b) (left - 1))
   unfolding Inside
   inside_chain n b left l h = rw (chain_step b left l) at h
+
+-- the first block of a chain that has one
+pub first_inside : (v : Bytes) (n b left : ℕ) → Inside n (chain v b left) → 0 < left → b < n
+first_inside v n b left h l = (inside_chain v n b left l h).0
 
 -- A slot is active where its kind is not 0.
 sorted : (k : ℕ) (t u w : Bool) → eqb k 0 ≡ t → leb k 3 ≡ u → eqb k 13 ≡ w → is_active (sort_of k) ≡ not t
@@ -174,6 +210,33 @@ pub alone_append : (v : Bytes) (s : ℕ) (xs ys : List ℕ)
 unfolding twins_of
 alone_append v s xs ys = rw (sum_append _ xs ys) (none_in (twins_of v s xs) (twins_of v s ys))
 
+-- The first block, where there is one, and those that follow lie on the volume.
+pub record Coming (v : Bytes) (n b left : ℕ) : Type 0 where
+  pub here : 0 < left → b < n
+  pub inside : Inside n (chain v b left)
+
+module _ (v : Bytes) (n b left : ℕ) where
+  pub coming : (k : ℕ) → k ≡ left → Inside n (chain v b left) → Coming v n b k
+  coming k e h = rw e record { here = λ l. (inside_chain v n b left l h).0; inside = h }
+
+  -- once the first is done
+  pub coming_next : (c k : ℕ) → c ≡ next v b → k ≡ left - 1 → 0 < left → Inside n (chain v b left) → Coming v n c k
+  coming_next c k p q l h =
+      let i = (inside_chain v n b left l h).1 in
+      rw (p, q) record { here = λ m. (inside_chain v n (next v b) (left - 1) m i).0; inside = i }
+
+  -- and what its slots come to
+  module _ (c k : ℕ) (p : c ≡ next v b) (q : k ≡ left - 1) (l : 0 < left) where
+    pub slots_next : slots (chain v b left) ≡ run (b * 13) (b * 13 + 13 - b * 13) ++ slots (chain v c k)
+    slots_next = rw (p, q) (slots_chain v b left l)
+
+    pub active_next : active v (slots (chain v b left)) ≡ active v (run (b * 13) (b * 13 + 13 - b * 13)) + active v (slots (chain v c k))
+    active_next = rw slots_next (sum_append _ (run (b * 13) (b * 13 + 13 - b * 13)) (slots (chain v c k)))
+
+    pub alone_next_block : (s : ℕ) → eqb (twins_of v s (slots (chain v b left))) 0
+        ≡ (eqb (twins_of v s (run (b * 13) (b * 13 + 13 - b * 13))) 0 and eqb (twins_of v s (slots (chain v c k))) 0)
+    alone_next_block s = rw slots_next (alone_append v s (run (b * 13) (b * 13 + 13 - b * 13)) (slots (chain v c k)))
+
 pub alone_none : (v : Bytes) (s b left : ℕ) → left ≡ 0 → eqb (twins_of v s (slots (chain v b left))) 0 ≡ true
 unfolding twins_of sum
 alone_none v s b left e = rw (no_slots v b left e)
@@ -214,15 +277,27 @@ unfolding prodos
 prodos_is n v = ap (λ t. eqb (previous v 2) 0 and t) (and_three _ _ _ _)
 
 pub volume_is : (v : Bytes)
-    → eqb (volume_faults v) 0 ≡ (eqb (next v 2) 3 and eqb (next v (next v 2)) 4 and eqb (next v (next v (next v 2))) 5 and eqb (map_block v) 6)
-unfolding volume_faults differ chain field
+    → eqb (volume_faults v) 0 ≡ (eqb (next v 2) 3 and eqb (next v 3) 4 and eqb (next v 4) 5 and eqb (map_block v) 6)
+unfolding volume_faults differ chain field ◌and◌
 volume_is v =
     let a = ne (next v 2) 3 in
     let b = ne (next v (next v 2)) 4 in
     let c = ne (next v (next v (next v 2))) 5 in
     let d = ne (map_block v) 6 in
     let e : volume_faults v ≡ a + (b + (c + d)) = omega arith in
-    rw e (simp (none_in, none_unless))
+    rw e (simp (none_in, none_unless) (links (eqb (next v 2) 3) refl))
+  where
+    -- each link that is right names the next block of the chain
+    second : (t : Bool) → eqb (next v 3) 4 ≡ t
+        → (eqb (next v 3) 4 and eqb (next v (next v 3)) 5 and eqb (map_block v) 6) ≡ (eqb (next v 3) 4 and eqb (next v 4) 5 and eqb (map_block v) 6)
+    second true h = rw (eqb-true _ _ h) refl
+    second false h = rw h refl
+
+    links : (t : Bool) → eqb (next v 2) 3 ≡ t
+        → (eqb (next v 2) 3 and eqb (next v (next v 2)) 4 and eqb (next v (next v (next v 2))) 5 and eqb (map_block v) 6)
+        ≡ (eqb (next v 2) 3 and eqb (next v 3) 4 and eqb (next v 4) 5 and eqb (map_block v) 6)
+    links true h = rw (eqb-true _ _ h) (second (eqb (next v 3) 4) refl)
+    links false h = rw h refl
 
 pub header_is : (v : Bytes) (s k : ℕ)
     → eqb (header_faults v s k) 0

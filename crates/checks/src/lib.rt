@@ -9,21 +9,25 @@ ghost use Rattle.model.specs.Directory.{at, block_of, slot_of, next, header_kind
 ghost use Rattle.model.specs.Sound.{prodos, volume_faults, header_faults, twins, twins_of};
 ghost use Rattle.checks.specs.Inside.{Inside, Readable, ahead, actives};
 
-const BLOCK: usize = 512;
+pub use twins::Node;
 
-const SLOT_SIZE: usize = 39;
+pub const BLOCK: usize = 512;
 
-const SLOTS: usize = 13;
+pub const SLOT_SIZE: usize = 39;
+
+pub const SLOTS: usize = 13;
 
 const VOLUME: usize = 2;
 
-fn wide(x: u8) -> usize
-    ensures { result ≡ x }
-{
-    x as usize
+// Room for the names of a directory, to compare them in: their addresses, and a tree of them.
+#[derive(Drop)]
+pub struct Scratch<'a> {
+    pub list: &'a mut [u32],
+    pub nodes: &'a mut [Node],
 }
 
 // Where a place's slot begins in the image.
+#[tactic(auto, unfolding(model::specs::Directory::at))]
 pub fn address(place: usize) -> usize
     requires { place < 1000000 }
     ensures { result ≡ at place }
@@ -37,7 +41,7 @@ pub fn name_right(img: &[u8], place: usize) -> bool
     ensures { result ≡ capital_name (view img.now) (at place) }
 {
     let a = address(place);
-    names::is_capital_name(&img[a..a + 39])
+    names::is_capital_name(&img[a..a + SLOT_SIZE])
 }
 
 // A header has this kind, 39 and 13.
@@ -45,30 +49,21 @@ fn header_fits(img: &[u8], key: usize, kind: u8) -> bool
     requires { key * 512 + 512 ≤ length img.now }
     ensures { result ≡ (eqb (header_kind (view img.now) key) kind and eqb (header_slot_size (view img.now) key) 39 and eqb (header_slots (view img.now) key) 13) }
 {
-    if img[key * BLOCK + 0x04] / 16 != kind {
-        return false;
-    }
-    if img[key * BLOCK + 0x23] != 39 {
-        return false;
-    }
-    img[key * BLOCK + 0x24] == 13
+    img[key * BLOCK + 0x04] / 16 == kind
+        && img[key * BLOCK + 0x23] == 39
+        && img[key * BLOCK + 0x24] == 13
 }
 
 pub fn is_prodos(img: &[u8], n: usize) -> bool
     requires { (length img.now ≡ n * 512) × (16 ≤ n) }
     ensures { result ≡ prodos n (view img.now) }
 {
-    if store::get_word(img, VOLUME * BLOCK) != 0 {
-        return false;
-    }
-    if header_fits(img, VOLUME, 0xF) {
-        store::get_word(img, VOLUME * BLOCK + 0x29) == n
-    } else {
-        false
-    }
+    store::get_word(img, VOLUME * BLOCK) == 0
+        && header_fits(img, VOLUME, 0xF)
+        && store::get_word(img, VOLUME * BLOCK + 0x29) == n
 }
 
-// The block that a directory block names as its next.
+// The block that a directory block names as its next. Four loops below go along a chain by it: each is two lines, and an iterator would be longer.
 fn next_of(img: &[u8], b: usize) -> usize
     requires { b * 512 + 512 ≤ length img.now }
     ensures { result ≡ next (view img.now) b }
@@ -81,16 +76,10 @@ pub fn volume_right(img: &[u8], n: usize) -> bool
     requires { (length img.now ≡ n * 512) × (16 ≤ n) }
     ensures { result ≡ eqb (volume_faults (view img.now)) 0 }
 {
-    if next_of(img, VOLUME) != 3 {
-        return false;
-    }
-    if next_of(img, 3) != 4 {
-        return false;
-    }
-    if next_of(img, 4) != 5 {
-        return false;
-    }
-    store::get_word(img, VOLUME * BLOCK + 0x27) == 6
+    next_of(img, VOLUME) == 3
+        && next_of(img, 3) == 4
+        && next_of(img, 4) == 5
+        && store::get_word(img, VOLUME * BLOCK + 0x27) == 6
 }
 
 // A subdirectory's header points at its entry: the block, the slot counted from 1, and the slot's size.
@@ -98,13 +87,9 @@ fn points_at(img: &[u8], place: usize, key: usize) -> bool
     requires { (place < 1000000) × (key * 512 + 512 ≤ length img.now) }
     ensures { result ≡ (eqb (parent_block (view img.now) key) (block_of place) and eqb (parent_slot (view img.now) key) (slot_of place) and eqb (parent_slot_size (view img.now) key) 39) }
 {
-    if store::get_word(img, key * BLOCK + 0x27) != place / SLOTS {
-        return false;
-    }
-    if wide(img[key * BLOCK + 0x29]) != place % SLOTS + 1 {
-        return false;
-    }
-    img[key * BLOCK + 0x2A] == 39
+    store::get_word(img, key * BLOCK + 0x27) == place / SLOTS
+        && usize::from(img[key * BLOCK + 0x29]) == place % SLOTS + 1
+        && img[key * BLOCK + 0x2A] == 39
 }
 
 // The header in block `key` is that of the subdirectory whose entry is at a place.
@@ -113,15 +98,12 @@ pub fn header_right(img: &[u8], n: usize, place: usize, key: usize) -> bool
     requires place_in_bounds { at place + 39 ≤ length img.now }
     ensures { result ≡ eqb (header_faults (view img.now) place key) 0 }
 {
-    if !header_fits(img, key, 0xE) {
-        return false;
-    }
-    if !points_at(img, place, key) {
-        return false;
-    }
-    twins::alike_at(img, key * BLOCK + 4, address(place))
+    header_fits(img, key, 0xE)
+        && points_at(img, place, key)
+        && twins::alike_at(img, key * BLOCK + 4, address(place))
 }
 
+#[tactic(auto, using(crate::proofs::Laws::active_is))]
 fn is_active(img: &[u8], n: usize, place: usize) -> bool
     requires { Readable n img.now × (place < n * 13) }
     ensures { result ≡ is_active (sort (view img.now) place) }
@@ -135,12 +117,10 @@ fn active_between(img: &[u8], n: usize, start: usize, end: usize) -> usize
     ensures { (result ≡ active (view img.now) (run start (end - start))) × (result ≤ end - start) }
 {
     let mut count = 0;
-    let mut place = start;
-    while place < end {
+    for place in start..end {
         if is_active(img, n, place) {
             count += 1;
         }
-        place += 1;
     }
     count
 }
@@ -153,17 +133,16 @@ fn active_in_blocks(img: &[u8], n: usize, first: usize, blocks: usize) -> usize
 {
     let mut count = 0;
     let mut block = first;
-    let mut left = blocks;
-    while 0 < left {
+    for _done in 0..blocks {
         let start = block * SLOTS;
         count += active_between(img, n, start, start + SLOTS);
         block = next_of(img, block);
-        left -= 1;
     }
     count
 }
 
 // The active entries of a directory of `used` blocks: its header is none of them.
+#[tactic(auto, using(crate::proofs::Laws::first_inside))]
 pub fn count_active(img: &[u8], n: usize, key: usize, used: usize) -> usize
     requires readable { Readable n img.now × (used ≤ 65535) }
     requires inside { Inside n (chain (view img.now) key used) }
@@ -178,19 +157,16 @@ pub fn count_active(img: &[u8], n: usize, key: usize, used: usize) -> usize
 }
 
 // No active slot from one place up to another has the name stored at `place`.
+#[tactic(auto, using(crate::proofs::Laws::alone_off, crate::proofs::Laws::alone_next, crate::proofs::Laws::alone_not, crate::proofs::Laws::alone_end))]
 fn alone_between(img: &[u8], n: usize, place: usize, start: usize, end: usize) -> bool
     requires { Readable n img.now × (place < n * 13) × (start ≤ end) × (end ≤ n * 13) }
     ensures { result ≡ eqb (twins_of (view img.now) place (run start (end - start))) 0 }
 {
     let name = address(place);
-    let mut other = start;
-    while other < end {
-        if is_active(img, n, other) {
-            if twins::alike_at(img, name, address(other)) {
-                return false;
-            }
+    for other in start..end {
+        if is_active(img, n, other) && twins::alike_at(img, name, address(other)) {
+            return false;
         }
-        other += 1;
     }
     true
 }
@@ -202,14 +178,12 @@ fn alone_in_blocks(img: &[u8], n: usize, place: usize, first: usize, blocks: usi
     ensures { result ≡ eqb (twins_of (view img.now) place (slots (chain (view img.now) first blocks))) 0 }
 {
     let mut block = first;
-    let mut left = blocks;
-    while 0 < left {
+    for _done in 0..blocks {
         let start = block * SLOTS;
         if !alone_between(img, n, place, start, start + SLOTS) {
             return false;
         }
         block = next_of(img, block);
-        left -= 1;
     }
     true
 }
@@ -220,28 +194,21 @@ fn alone_ahead(img: &[u8], n: usize, place: usize, block: usize, after: usize) -
     requires inside { Inside n (chain (view img.now) (next (view img.now) block) after) }
     ensures { result ≡ eqb (twins_of (view img.now) place (ahead (view img.now) (place + 1) block after)) 0 }
 {
-    if alone_between(img, n, place, place + 1, block * SLOTS + SLOTS) {
-        alone_in_blocks(img, n, place, next_of(img, block), after)
-    } else {
-        false
-    }
+    alone_between(img, n, place, place + 1, block * SLOTS + SLOTS)
+        && alone_in_blocks(img, n, place, next_of(img, block), after)
 }
 
 // Each active slot of a block, from `start` on, has a name that none behind it has: whether two of the blocks that follow are alike is open.
+#[tactic(auto, using(crate::proofs::Laws::ahead_end, crate::proofs::Laws::unlike_skip, crate::proofs::Laws::unlike_more, crate::proofs::Laws::unlike_not))]
 fn unlike_from(img: &[u8], n: usize, start: usize, block: usize, after: usize) -> bool
     requires readable { Readable n img.now × (start ≤ block * 13 + 13) × (block < n) }
     requires inside { Inside n (chain (view img.now) (next (view img.now) block) after) }
     ensures { eqb (twins (view img.now) (ahead (view img.now) start block after)) 0 ≡ (result and eqb (twins (view img.now) (slots (chain (view img.now) (next (view img.now) block) after))) 0) }
 {
-    let end = block * SLOTS + SLOTS;
-    let mut place = start;
-    while place < end {
-        if is_active(img, n, place) {
-            if !alone_ahead(img, n, place, block, after) {
-                return false;
-            }
+    for place in start..block * SLOTS + SLOTS {
+        if is_active(img, n, place) && !alone_ahead(img, n, place, block, after) {
+            return false;
         }
-        place += 1;
     }
     true
 }
@@ -253,10 +220,8 @@ fn unlike_in_blocks(img: &[u8], n: usize, first: usize, blocks: usize) -> bool
     ensures { result ≡ eqb (twins (view img.now) (slots (chain (view img.now) first blocks))) 0 }
 {
     let mut block = first;
-    let mut left = blocks;
-    while 0 < left {
-        left -= 1;
-        if !unlike_from(img, n, block * SLOTS, block, left) {
+    for after in (0..blocks).rev() {
+        if !unlike_from(img, n, block * SLOTS, block, after) {
             return false;
         }
         block = next_of(img, block);
@@ -265,6 +230,7 @@ fn unlike_in_blocks(img: &[u8], n: usize, first: usize, blocks: usize) -> bool
 }
 
 // No two active entries of a directory of `used` blocks have one name: each is compared with each.
+#[tactic(auto, using(crate::proofs::Laws::first_inside))]
 fn each_with_each(img: &[u8], n: usize, key: usize, used: usize) -> bool
     requires readable { Readable n img.now }
     requires inside { Inside n (chain (view img.now) key used) }
@@ -273,11 +239,8 @@ fn each_with_each(img: &[u8], n: usize, key: usize, used: usize) -> bool
     if used == 0 {
         return true;
     }
-    if unlike_from(img, n, key * SLOTS + 1, key, used - 1) {
-        unlike_in_blocks(img, n, next_of(img, key), used - 1)
-    } else {
-        false
-    }
+    unlike_from(img, n, key * SLOTS + 1, key, used - 1)
+        && unlike_in_blocks(img, n, next_of(img, key), used - 1)
 }
 
 // Appends the addresses of the active slots from one place up to another to the first `at` of a list.
@@ -296,13 +259,11 @@ fn gather_between(
     ensures list_after { take result list.new ≡ take at list.old ++ actives (view img.now) (run start (end - start)) }
 {
     let mut count = at;
-    let mut place = start;
-    while place < end {
+    for place in start..end {
         list[count] = address(place) as u32;
         if is_active(img, n, place) {
             count += 1;
         }
-        place += 1;
     }
     count
 }
@@ -323,17 +284,16 @@ fn gather_in_blocks(
 {
     let mut count = at;
     let mut block = first;
-    let mut left = blocks;
-    while 0 < left {
+    for _done in 0..blocks {
         let start = block * SLOTS;
         count = gather_between(img, n, start, start + SLOTS, list, count);
         block = next_of(img, block);
-        left -= 1;
     }
     count
 }
 
 // The addresses of a directory's active entries, from the start of a list on.
+#[tactic(auto, using(crate::proofs::Laws::first_inside))]
 fn gather_entries(img: &[u8], n: usize, key: usize, used: usize, list: &mut [u32]) -> usize
     requires readable { Readable n img.now × Inside n (chain (view img.now) key used) × (0 < used) }
     requires used_in_bounds { active (view img.now) (drop 1 (slots (chain (view img.now) key used))) < length list.old }
@@ -345,57 +305,43 @@ fn gather_entries(img: &[u8], n: usize, key: usize, used: usize, list: &mut [u32
     gather_in_blocks(img, n, next_of(img, key), used - 1, list, count)
 }
 
-// No two active entries of a directory of `used` blocks have one name: they are put into a tree. The last three are scratch.
+// No two active entries of a directory of `used` blocks have one name: they are put into a tree. The last two are scratch.
 fn unlike_by_tree(
     img: &[u8],
     n: usize,
     key: usize,
     used: usize,
     list: &mut [u32],
-    x: &mut [u32],
-    y: &mut [u32],
+    nodes: &mut [Node],
 ) -> bool
     requires readable { Readable n img.now × Inside n (chain (view img.now) key used) × (used ≤ 65535) }
-    requires used_in_bounds { active (view img.now) (drop 1 (slots (chain (view img.now) key used))) < length list.old }
-    requires used_in_bounds_2 { active (view img.now) (drop 1 (slots (chain (view img.now) key used))) < length x.old }
-    requires used_in_bounds_3 { active (view img.now) (drop 1 (slots (chain (view img.now) key used))) < length y.old }
+    requires list_in_bounds { active (view img.now) (drop 1 (slots (chain (view img.now) key used))) < length list.old }
+    requires nodes_in_bounds { active (view img.now) (drop 1 (slots (chain (view img.now) key used))) < length nodes.old }
     ensures { result ≡ eqb (twins (view img.now) (drop 1 (slots (chain (view img.now) key used)))) 0 }
 {
     if used == 0 {
         return true;
     }
     let count = gather_entries(img, n, key, used, list);
-    twins::no_twins(img, &list[0..count], x, y)
+    twins::no_twins(img, &list[0..count], nodes)
 }
 
 // No two active entries of a directory of `used` blocks have one name. In a few blocks each is compared with each, in more they are put into a tree.
-// The last three are scratch, each with a place more than there are entries: where one is shorter, each is compared with each again.
-pub fn unlike(
-    img: &[u8],
-    n: usize,
-    key: usize,
-    used: usize,
-    list: &mut [u32],
-    x: &mut [u32],
-    y: &mut [u32],
-) -> bool
+// Each part of the scratch has a place more than there are entries: where one is shorter, each is compared with each again.
+pub fn unlike(img: &[u8], n: usize, key: usize, used: usize, scratch: &mut Scratch<'_>) -> bool
     requires readable { Readable n img.now }
     requires inside { Inside n (chain (view img.now) key used) }
     ensures { result ≡ eqb (twins (view img.now) (drop 1 (slots (chain (view img.now) key used)))) 0 }
 {
-    if used < 5 {
-        return each_with_each(img, n, key, used);
-    }
-    if 65535 < used {
+    if used < 5 || 65535 < used {
         return each_with_each(img, n, key, used);
     }
     let count = count_active(img, n, key, used);
-    if count < list.len() {
-        if count < x.len() {
-            if count < y.len() {
-                return unlike_by_tree(img, n, key, used, list, x, y);
-            }
-        }
+    let list = &mut *scratch.list;
+    let nodes = &mut *scratch.nodes;
+    if count < list.len() && count < nodes.len() {
+        unlike_by_tree(img, n, key, used, list, nodes)
+    } else {
+        each_with_each(img, n, key, used)
     }
-    each_with_each(img, n, key, used)
 }

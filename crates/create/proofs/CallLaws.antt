@@ -1,4 +1,5 @@
 -- What create answers, by what houses the new entry, and what soundness gives of that directory.
+use Rattle.std.specs.Prelude.{Result, Ok, Err}
 use Prim.Native.Nat.{ℕ, ◌+◌, ◌-◌, ◌*◌, ◌/◌, ◌≤◌, ◌<◌}
 use mathlib.Core.Path.{◌≡◌, refl, sym, ap, subst, ◌∙◌}
 use mathlib.Core.List.{List, [], ◌∷◌}
@@ -18,7 +19,6 @@ use Rattle.model.specs.Calls.{total, target, home, is_no_volume, is_no_directory
 use Rattle.model.specs.Create.{Wanted, directory_kind, last_block, entry_bytes, subdirectory_header, created_at, entered, created, full, create_need, create_number, create}
 use Rattle.model.specs.Answers.{Does}
 use Rattle.model.specs.declared.Refusal.{Refusal}
-use Rattle.model.specs.declared.Answer.TheVariants as answer
 use Rattle.model.proofs.RefusalLaws.{settle_refused, number_refuses}
 use Rattle.model.proofs.BitLaws.{room_one, room_lowest, lowest_free}
 use Rattle.model.proofs.Laws.Frame.{last_in}
@@ -37,8 +37,6 @@ use Rattle.opening.proofs.VolumeLaws.{Fits}
 use Rattle.opening.proofs.SaneLaws.{sane}
 use Rattle.create.specs.Housed.{housed_by}
 use Rattle.create.specs.Entered.{fresh_block, entered_in, create_in, grown, Houses}
-use Rattle.create.specs.declared.Housed.{Housed}
-use Rattle.create.specs.declared.Housed.TheVariants as housed
 use Rattle.create.proofs.EnteredLaws.{entered_is, in_number}
 use Rattle.create.proofs.HousedLaws.{housed_or, housed_first, housed_in}
 
@@ -143,29 +141,29 @@ module _ (len : ℕ) (v p : Bytes) (k : ℕ) (w : Wanted) where
       ∷ row (ltb (room (map_block v) v (total len)) (create_need v (home (target v p k)))) 0x48
       ∷ []
 
-  number_of : (o : Housed) → housed_by len v p k w.kind w.ftype ≡ o → create_number len v p k w (target v p k) ≡ housed_or o (first rows)
+  number_of : (o : Result (ℕ × Home) Refusal) → housed_by len v p k w.kind w.ftype ≡ o → create_number len v p k w (target v p k) ≡ housed_or o (first rows)
   unfolding create_number
   number_of o e = housed_first len v p k w rows ∙ ap (λ o. housed_or o (first rows)) e
 
-pub create_refused : (l : List ℕ) (p : Bytes) (k : ℕ) (w : Wanted) (r : Refusal) → housed_by (length l) (view l) p k w.kind w.ftype ≡ housed.Refused r
-    → Does (create (length l) (view l) p k w) (length l) (answer.Refused r) l
+pub create_refused : (l : List ℕ) (p : Bytes) (k : ℕ) (w : Wanted) (r : Refusal) → housed_by (length l) (view l) p k w.kind w.ftype ≡ Err r
+    → Does (create (length l) (view l) p k w) (length l) (Err r) l
 unfolding create settle
 create_refused l p k w r e =
     let v = view l in
     let t = target v p k in
-    let n = number_of (length l) v p k w (housed.Refused r) e in
+    let n = number_of (length l) v p k w (Err r) e in
     let s = settle_refused (create_number (length l) v p k w t) nothing v nothing (created (map_block v) (total (length l)) v (home t) p (last_part (parts p k)) w) (λ z. number_refuses r (sym n ∙ z)) in
     record { said = sym n; size = refl; bytes = sym s.1 }
 
 -- a directory houses the new entry
-pub create_housed : (len : ℕ) (v p : Bytes) (k : ℕ) (w : Wanted) (n : ℕ) (g : Home) → Octets v → housed_by len v p k w.kind w.ftype ≡ housed.In n g
+pub create_housed : (len : ℕ) (v p : Bytes) (k : ℕ) (w : Wanted) (n : ℕ) (g : Home) → Octets v → housed_by len v p k w.kind w.ftype ≡ Ok (n, g)
     → Fits len v n × Houses n v g (place_number g.place) × (create len v p k w ≡ create_in n v (place_number g.place) p (last_part (parts p k)) w)
 unfolding create create_in
 create_housed len v p k w n g octets e =
     let H = housed_in len v p k w.kind w.ftype n g e in
     let f = H.fits in
     let d : ℕ = H.place in
-    let number : create_number len v p k w (target v p k) ≡ first (rows len v p k w) = number_of len v p k w (housed.In n g) e in
+    let number : create_number len v p k w (target v p k) ≡ first (rows len v p k w) = number_of len v p k w (Ok (n, g)) e in
     let housed : home (target v p k) ≡ d = unfold home in ap home H.led in
     let whole : create len v p k w ≡ create_in n v d p (last_part (parts p k)) w =
     ap (λ j. settle j nothing v nothing (created (map_block v) (total len) v (home (target v p k)) p (last_part (parts p k)) w)) number

@@ -1,4 +1,5 @@
 -- What the stores of create come to, the rows $49 and $48, and what soundness gives of a directory.
+use Rattle.std.specs.Prelude.{Ok, Err}
 use Prim.Native.Nat.{ℕ, zero, suc, ◌+◌, ◌-◌, ◌*◌, ◌≤◌, ◌<◌}
 use mathlib.Core.Path.{◌≡◌, refl, sym, ap, subst, ◌∙◌}
 use mathlib.Core.List.{List, [], ◌∷◌, Memᴰ}
@@ -8,16 +9,15 @@ use lib.Dec.{ltb, eqb}
 use lib.ListN.{length}
 use native.Mathlib.Omega.{arith}
 use borrow.Author.Tests.{eq-eqb, ne_eqb, lt-ltb, le-ltb}
-use Rattle.model.specs.Bytes.{Bytes, view, paste, put_word, put_long, long, count, ◌and◌}
+use Rattle.model.specs.Bytes.{Bytes, view, paste, put_word, count, ◌and◌}
 use Rattle.model.specs.Names.{Part}
 use Rattle.model.specs.Map.{room, lowest, first_free, taken}
-use Rattle.model.specs.Directory.{at, block_of, volume, map_place, active_count, chain, next, key, used, kids, vacant}
+use Rattle.model.specs.Directory.{at, block_of, volume, map_place, active_count, chain, next, key, kids, vacant}
 use Rattle.model.specs.Refusals.{refusal_number, row, first, settle}
 use Rattle.model.specs.Calls.{nothing}
 use Rattle.model.specs.Create.{Wanted, directory_kind, last_block, gained, entry_bytes, subdirectory_header, entered, created_at, created, is_full, full, create_need}
 use Rattle.model.specs.Answers.{Does}
 use Rattle.model.specs.declared.Refusal.{Refusal}
-use Rattle.model.specs.declared.Answer.TheVariants as answer
 use Rattle.model.specs.declared.Place.{Place}
 use Rattle.model.proofs.RefusalLaws.{settle_refused, settle_accepted, number_refuses, first_applies, first_passes}
 use Rattle.model.proofs.BitLaws.{room_lowest}
@@ -32,10 +32,6 @@ use Rattle.create.specs.Entered.{fresh_block, entered_in, gained_at, create_in, 
 
 -- The stores.
 module _ (v : Bytes) (z s : ℕ) (p : Bytes) (x : Part) (w : Wanted) where
-  pub fresh_file : (w.kind ≡ directory_kind → ⊥) → taken map_place v z ≡ fresh_block v z s p x w
-  unfolding fresh_block
-  fresh_file e = rw (ne_eqb w.kind directory_kind e, fresh_block) refl
-
   pub fresh_directory : w.kind ≡ directory_kind → (f g : Bytes) → f ≡ taken map_place v z → g ≡ paste f (z * 512 + 4) 39 (subdirectory_header p x w.stamp s)
       → g ≡ fresh_block v z s p x w
   unfolding fresh_block
@@ -49,11 +45,6 @@ module _ (v : Bytes) (z s : ℕ) (p : Bytes) (x : Part) (w : Wanted) where
   pub entered_is : (d : ℕ) → entered map_place v d s z p x w ≡ entered_in v (key v d) s z p x w
   unfolding entered entered_in fresh_block
   entered_is d = refl
-
-pub gained_image : (v : Bytes) (a u y z e : ℕ) (f g i : Bytes) → e ≡ long v (a + 0x15) → f ≡ put_word (put_word (taken map_place v z) (z * 512) y) (y * 512 + 2) z
-    → g ≡ put_word f (a + 0x13) (u + 1) → i ≡ put_long g (a + 0x15) (e + 512) → i ≡ gained_at v a u y z
-unfolding gained_at
-gained_image v a u y z e f g i size linked used put = put ∙ rw (used, linked, size) refl
 
 -- The walk to the last block.
 module _ (n : ℕ) (v : Bytes) where
@@ -120,14 +111,14 @@ module _ (n : ℕ) (v : Bytes) (d : ℕ) where
 
 -- the two outcomes
 module _ (n : ℕ) (l : List ℕ) (d : ℕ) (p : Bytes) (x : Part) (w : Wanted) where
-  pub in_no : (r : Refusal) → in_number n (view l) d ≡ refusal_number r → Does (create_in n (view l) d p x w) (length l) (answer.Refused r) l
+  pub in_no : (r : Refusal) → in_number n (view l) d ≡ refusal_number r → Does (create_in n (view l) d p x w) (length l) (Err r) l
   unfolding create_in settle
   in_no r e =
       let s = settle_refused (in_number n (view l) d) nothing (view l) nothing (created map_place n (view l) d p x w) (λ z. number_refuses r (sym e ∙ z)) in
       record { said = sym e; size = refl; bytes = sym s.1 }
 
   pub in_yes : in_number n (view l) d ≡ 0 → (l' : List ℕ) → length l' ≡ length l → view l' ≡ created map_place n (view l) d p x w
-      → Does (create_in n (view l) d p x w) (length l) answer.Done l'
+      → Does (create_in n (view l) d p x w) (length l) (Ok tt) l'
   unfolding create_in settle
   in_yes e l' z g =
       let s = settle_accepted (in_number n (view l) d) nothing (view l) nothing (created map_place n (view l) d p x w) e in

@@ -1,4 +1,5 @@
 -- What destroy answers, by what the path leads to, and that the code does to the decoded entry what the definition does at its place.
+use Rattle.std.specs.Prelude.{Result, Ok, Err}
 use Prim.Native.Nat.{ℕ, zero, suc, ◌+◌, ◌-◌, ◌*◌, ◌/◌, ◌%◌, ◌≤◌, ◌<◌}
 use mathlib.Core.Path.{◌≡◌, refl, sym, ap, ◌∙◌}
 use mathlib.Core.List.{List, [], ◌∷◌}
@@ -20,7 +21,6 @@ use Rattle.model.specs.declared.Kind.{Kind}
 use Rattle.model.specs.declared.Kind.TheVariants.{Seedling, Sapling, Tree, Directory}
 use Rattle.model.specs.declared.Refusal.{Refusal}
 use Rattle.model.specs.declared.Refusal.TheVariants.{Locked}
-use Rattle.model.specs.declared.Answer.TheVariants as answer
 use Rattle.model.specs.declared.Entry.{Entry}
 use Rattle.model.specs.declared.Place.{Place}
 use Rattle.model.proofs.RefusalLaws.{settle_refused, settle_accepted, number_refuses, first_applies, first_passes}
@@ -91,7 +91,7 @@ gone_image v k a x c s f g i count start given lowered struck = struck ∙ rw (l
 
 -- the two outcomes
 module _ (l : List ℕ) (k a : ℕ) (x : Entry) where
-  pub gone_no : may_go (view l) x ≡ false → Does (entry_destroy (view l) k a x) (length l) (answer.Refused Locked) l
+  pub gone_no : may_go (view l) x ≡ false → Does (entry_destroy (view l) k a x) (length l) (Err Locked) l
   unfolding entry_destroy settle
   gone_no e =
       let n = first_applies (row (not (may_go (view l) x)) 0x4E) [] (ap not e) in
@@ -99,7 +99,7 @@ module _ (l : List ℕ) (k a : ℕ) (x : Entry) where
       record { said = sym n; size = refl; bytes = sym s.1 }
 
   pub gone_yes : may_go (view l) x ≡ true → (l' : List ℕ) → length l' ≡ length l → view l' ≡ entry_gone (view l) k a x
-      → Does (entry_destroy (view l) k a x) (length l) answer.Done l'
+      → Does (entry_destroy (view l) k a x) (length l) (Ok tt) l'
   unfolding entry_destroy settle first
   gone_yes e l' z g =
       let n : first (row (not (may_go (view l) x)) 0x4E ∷ []) ≡ 0 = first_passes (row (not (may_go (view l) x)) 0x4E) [] (ap not e) in
@@ -115,11 +115,11 @@ module _ (len : ℕ) (v p : Bytes) (k : ℕ) where
   unfolding destroy_number
   number = opened_first len v p k rows
 
-  number_of : (o : Opened) → opened_by len v p k ≡ o → destroy_number len v p k (target v p k) ≡ opened_or o (first rows)
+  number_of : (o : Result Opened Refusal) → opened_by len v p k ≡ o → destroy_number len v p k (target v p k) ≡ opened_or o (first rows)
   number_of o e = number ∙ ap (λ o. opened_or o (first rows)) e
 
 no : (l : List ℕ) (p : Bytes) (k : ℕ) (r : Refusal) → destroy_number (length l) (view l) p k (target (view l) p k) ≡ refusal_number r
-    → Does (destroy (length l) (view l) p k) (length l) (answer.Refused r) l
+    → Does (destroy (length l) (view l) p k) (length l) (Err r) l
 unfolding destroy settle
 no l p k r e =
     let v = view l in
@@ -128,10 +128,10 @@ no l p k r e =
     record { said = sym e; size = refl; bytes = sym s.1 }
 
 module _ (l : List ℕ) (p : Bytes) (k : ℕ) where
-  pub destroy_refused : (r : Refusal) → opened_by (length l) (view l) p k ≡ opened.Refused r → Does (destroy (length l) (view l) p k) (length l) (answer.Refused r) l
-  destroy_refused r e = no l p k r (number_of (length l) (view l) p k (opened.Refused r) e)
+  pub destroy_refused : (r : Refusal) → opened_by (length l) (view l) p k ≡ Err r → Does (destroy (length l) (view l) p k) (length l) (Err r) l
+  destroy_refused r e = no l p k r (number_of (length l) (view l) p k (Err r) e)
 
-  pub destroy_volume : (n : ℕ) → opened_by (length l) (view l) p k ≡ opened.Volume n → Does (destroy (length l) (view l) p k) (length l) (answer.Refused Locked) l
+  pub destroy_volume : (n : ℕ) → opened_by (length l) (view l) p k ≡ Ok (opened.Volume n) → Does (destroy (length l) (view l) p k) (length l) (Err Locked) l
   destroy_volume n e = go (opened_by (length l) (view l) p k) refl e (seen (length l) (view l) p k)
     where
       v : Bytes
@@ -140,7 +140,7 @@ module _ (l : List ℕ) (p : Bytes) (k : ℕ) where
       locked : (d : ℕ) → may_destroy v (spot (there d volume)) ≡ false
       locked d = unfold may_destroy spot ◌and◌ in refl
 
-      go : (o : Opened) → opened_by (length l) v p k ≡ o → o ≡ opened.Volume n → Seen (length l) v p k o → Does (destroy (length l) v p k) (length l) (answer.Refused Locked) l
+      go : (o : Result Opened Refusal) → opened_by (length l) v p k ≡ o → o ≡ Ok (opened.Volume n) → Seen (length l) v p k o → Does (destroy (length l) v p k) (length l) (Err Locked) l
       go o q z (refused r x) = let y : ◌≡◌ {A = ℕ} 0 1 = cc in absurd (omega arith)
       go o q z (on_volume d f t) =
           let m : may_destroy v (spot (target v p k)) ≡ false = ap (λ t. may_destroy v (spot t)) t ∙ locked d in
@@ -216,12 +216,12 @@ module _ (n : ℕ) (v : Bytes) (d s : ℕ) (h : sound n v ≡ true) (w : Named v
         }
 
 -- the path leads to an entry
-pub destroy_entry : (len : ℕ) (v p : Bytes) (k n : ℕ) (g : Home) (s : Place) (x : Entry) → opened_by len v p k ≡ opened.Entry n g s x
+pub destroy_entry : (len : ℕ) (v p : Bytes) (k n : ℕ) (g : Home) (s : Place) (x : Entry) → opened_by len v p k ≡ Ok (opened.Entry n g s x)
     → Fits len v n × (destroy len v p k ≡ entry_destroy v g.key (at (place_number s)) x) × Goes n v g s x
 unfolding destroy
 destroy_entry len v p k n g s x e = go (opened_by len v p k) refl e (seen len v p k)
   where
-    go : (o : Opened) → opened_by len v p k ≡ o → o ≡ opened.Entry n g s x → Seen len v p k o
+    go : (o : Result Opened Refusal) → opened_by len v p k ≡ o → o ≡ Ok (opened.Entry n g s x) → Seen len v p k o
         → Fits len v n × (destroy len v p k ≡ entry_destroy v g.key (at (place_number s)) x) × Goes n v g s x
     go o q z (refused r y) = let w : ◌≡◌ {A = ℕ} 0 1 = cc in absurd (omega arith)
     go o q z (on_volume d f t) = let w : ◌≡◌ {A = ℕ} 0 1 = cc in absurd (omega arith)

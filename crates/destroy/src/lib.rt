@@ -14,7 +14,7 @@ ghost use Rattle.release.specs.Loose.{Whole, Loose};
 ghost use Rattle.destroy.specs.Gone.{may_go, entry_blocks, entry_destroy, Goes};
 
 use directory::Home;
-use model::{Answer, Entry, Kind, Place, Refusal};
+use model::{Entry, Kind, Place, Refusal};
 use opening::Opened;
 
 const BLOCK: usize = 512;
@@ -55,28 +55,33 @@ fn give_blocks(img: &mut [u8], n: usize, entry: Entry)
 }
 
 // The work on an entry of a directory: its blocks, the directory's count, and the first byte of its slot.
-fn destroy_entry(img: &mut [u8], n: usize, home: Home, place: Place, entry: Entry) -> Answer
+fn destroy_entry(
+    img: &mut [u8],
+    n: usize,
+    home: Home,
+    place: Place,
+    entry: Entry,
+) -> Result<(), Refusal>
     requires { Whole n img.old × Goes n (view img.old) home place entry }
     ensures { Does (entry_destroy (view img.old) home.key (at (place_number place)) entry) (length img.old) result img.new }
 {
     if !may_destroy(img, n, entry) {
-        return Answer::Refused(Refusal::Locked);
+        return Err(Refusal::Locked);
     }
     let counted = home.key as usize * BLOCK + COUNT;
     let count = store::get_word(img, counted);
     give_blocks(img, n, entry);
     store::put_word(img, counted, count - 1);
     store::put_byte(img, directory::slot_at(place), 0);
-    Answer::Done
+    Ok(())
 }
 
 // Destroy: the entry that a path leads to.
-pub fn destroy(img: &mut [u8], path: &[u8]) -> Answer
+pub fn destroy(img: &mut [u8], path: &[u8]) -> Result<(), Refusal>
     ensures { Does (destroyCall (length img.old) (view img.old) (view path.now) (length path.now)) (length img.old) result img.new }
 {
-    match opening::opened_by(img, path) {
-        Opened::Refused(why) => Answer::Refused(why),
-        Opened::Volume(_) => Answer::Refused(Refusal::Locked),
+    match opening::opened_by(img, path)? {
+        Opened::Volume(_) => Err(Refusal::Locked),
         Opened::Entry(n, home, place, entry) => destroy_entry(img, n, home, place, entry),
     }
 }

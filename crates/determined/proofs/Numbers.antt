@@ -1,22 +1,17 @@
 -- An answer is known by its number and its other parts.
+use Rattle.std.specs.Prelude.{Result, Ok, Err}
 use Prim.Native.Nat.{ℕ}
 use mathlib.Core.Path.{◌≡◌, refl, sym, ap, ◌∙◌}
 use mathlib.Core.Bool.{Bool, true, false}
 use lib.Dec.{eqb}
 use Rattle.model.specs.Refusals.{refusal_number}
-use Rattle.model.specs.Info.{Space}
-use Rattle.model.specs.Answers.{answer_number, transfer_number, transferred, info_number, info_told, space_answer_number, space_told}
+use Rattle.model.specs.Info.{Space as Told}
+use Rattle.model.specs.declared.Space.{Space}
+use Rattle.model.specs.declared.Info.{Info}
+use Rattle.model.specs.Answers.{answer_number, transferred, info_told, space_told}
 use Rattle.model.proofs.RefusalLaws.{number_refuses}
 use Rattle.model.specs.declared.Refusal.{Refusal}
 use Rattle.model.specs.declared.Refusal.TheVariants.{NotProdos, NotSound, BadPath, BadKind, BadType, NoVolume, NoDirectory, NotFound, Duplicate, Locked, BadPosition, EndOfFile, DirectoryFull, NoRoom}
-use Rattle.model.specs.declared.Answer.{Answer}
-use Rattle.model.specs.declared.Answer.TheVariants as answer
-use Rattle.model.specs.declared.Transfer.{Transfer}
-use Rattle.model.specs.declared.Transfer.TheVariants as transfer
-use Rattle.model.specs.declared.InfoAnswer.{InfoAnswer}
-use Rattle.model.specs.declared.InfoAnswer.TheVariants as information
-use Rattle.model.specs.declared.SpaceAnswer.{SpaceAnswer}
-use Rattle.model.specs.declared.SpaceAnswer.TheVariants as spacing
 
 -- the refusal of a number
 refusal_of : ℕ → Refusal
@@ -46,26 +41,24 @@ refusal_back NoRoom = refl
 refusal_known : (r s : Refusal) → refusal_number r ≡ refusal_number s → r ≡ s
 refusal_known r s e = sym (refusal_back r) ∙ ap refusal_of e ∙ refusal_back s
 
-pub answer_known : (x y : Answer) → answer_number x ≡ answer_number y → x ≡ y
-answer_known answer.Done answer.Done e = refl
-answer_known answer.Done (answer.Refused r) e = absurd (number_refuses r (sym e))
-answer_known (answer.Refused r) answer.Done e = absurd (number_refuses r e)
-answer_known (answer.Refused r) (answer.Refused s) e = ap answer.Refused (refusal_known r s e)
+-- of two answers with one number both are refused, for one reason, or both are done
+pub answer_known : {A : Type 0} (x y : Result A Refusal) → ((a b : A) → x ≡ Ok a → y ≡ Ok b → a ≡ b) → answer_number x ≡ answer_number y → x ≡ y
+answer_known (Ok a) (Ok b) h e = ap Ok (h a b refl refl)
+answer_known (Ok a) (Err r) h e = absurd (number_refuses r (sym e))
+answer_known (Err r) (Ok b) h e = absurd (number_refuses r e)
+answer_known (Err r) (Err s) h e = ap Err (refusal_known r s e)
 
-pub transfer_known : (x y : Transfer) → transfer_number x ≡ transfer_number y → transferred x ≡ transferred y → x ≡ y
-transfer_known (transfer.Moved j) (transfer.Moved k) e f = ap transfer.Moved f
-transfer_known (transfer.Moved j) (transfer.Refused r) e f = absurd (number_refuses r (sym e))
-transfer_known (transfer.Refused r) (transfer.Moved k) e f = absurd (number_refuses r e)
-transfer_known (transfer.Refused r) (transfer.Refused s) e f = ap transfer.Refused (refusal_known r s e)
+pub done_known : (x y : Result (Unit {0}) Refusal) → answer_number x ≡ answer_number y → x ≡ y
+done_known x y = answer_known x y (λ a b f g. refl)
 
-pub info_known : (x y : InfoAnswer) → info_number x ≡ info_number y → info_told x ≡ info_told y → x ≡ y
-info_known (information.Told i) (information.Told j) e f = ap information.Told f
-info_known (information.Told i) (information.Refused r) e f = absurd (number_refuses r (sym e))
-info_known (information.Refused r) (information.Told j) e f = absurd (number_refuses r e)
-info_known (information.Refused r) (information.Refused s) e f = ap information.Refused (refusal_known r s e)
+pub transfer_known : (x y : Result ℕ Refusal) → answer_number x ≡ answer_number y → transferred x ≡ transferred y → x ≡ y
+transfer_known x y e h = answer_known x y (λ a b f g. ap transferred (sym f) ∙ h ∙ ap transferred g) e
 
-pub space_known : (x y : SpaceAnswer) → space_answer_number x ≡ space_answer_number y → space_told x ≡ space_told y → x ≡ y
-space_known (spacing.Blocks t f) (spacing.Blocks u g) e h = ap (λ (s : Space). spacing.Blocks s.total s.unused) h
-space_known (spacing.Blocks t f) (spacing.Refused r) e h = absurd (number_refuses r (sym e))
-space_known (spacing.Refused r) (spacing.Blocks u g) e h = absurd (number_refuses r e)
-space_known (spacing.Refused r) (spacing.Refused s) e h = ap spacing.Refused (refusal_known r s e)
+pub info_known : (x y : Result Info Refusal) → answer_number x ≡ answer_number y → info_told x ≡ info_told y → x ≡ y
+info_known x y e h = answer_known x y (λ a b f g. ap info_told (sym f) ∙ h ∙ ap info_told g) e
+
+pub space_known : (x y : Result Space Refusal) → answer_number x ≡ answer_number y → space_told x ≡ space_told y → x ≡ y
+space_known x y e h = answer_known x y (λ a b f g. ap back (ap space_told (sym f) ∙ h ∙ ap space_told g)) e
+  where
+    back : Told → Space
+    back s = record { total = s.total; free = s.unused }

@@ -1,13 +1,14 @@
 -- Equal results of the ten calls: the answer in all its parts, and every byte of image or buffer.
+use Rattle.std.specs.Prelude.{Result}
+use Rattle.model.specs.declared.Refusal.{Refusal}
 use Prim.Native.Nat.{ℕ}
 use mathlib.Core.Path.{◌≡◌, refl, sym, ◌∙◌}
 use mathlib.Core.List.{List}
 use Rattle.model.specs.Refusals.{Outcome}
 use Rattle.model.specs.Calls.{Nothing}
 use Rattle.model.specs.Answers.{Does}
-use Rattle.model.specs.declared.Answer.{Answer}
 use Rattle.determined.proofs.Determined.{Determined, Nothing-seen, none_seen, same_list}
-use Rattle.determined.proofs.Numbers.{answer_known, transfer_known, info_known, space_known}
+use Rattle.determined.proofs.Numbers.{done_known, transfer_known, info_known, space_known}
 use Rattle.info.proofs.space.Reads as space-reads
 use Rattle.info.proofs.space.Kinds as space-kinds
 use Rattle.info.proofs.get_info.Reads as get-info-reads
@@ -30,8 +31,8 @@ use Rattle.write.proofs.write.Reads as write-reads
 use Rattle.write.proofs.write.Kinds as write-kinds
 
 -- a call that answers whether it was done, and leaves an image
-does_same : (o : Outcome Nothing) (n : ℕ) (r₁ r₂ : Answer) (l₁ l₂ : List ℕ) → Does o n r₁ l₁ → Does o n r₂ l₂ → (r₁ ≡ r₂) × (l₁ ≡ l₂)
-does_same o n r₁ r₂ l₁ l₂ p q = (answer_known r₁ r₂ (p.said ∙ sym q.said), same_list l₁ l₂ n o.image p.size q.size p.bytes q.bytes)
+does_same : (o : Outcome Nothing) (n : ℕ) (r₁ r₂ : Result (Unit {0}) Refusal) (l₁ l₂ : List ℕ) → Does o n r₁ l₁ → Does o n r₂ l₂ → (r₁ ≡ r₂) × (l₁ ≡ l₂)
+does_same o n r₁ r₂ l₁ l₂ p q = (done_known r₁ r₂ (p.said ∙ sym q.said), same_list l₁ l₂ n o.image p.size q.size p.bytes q.bytes)
 
 pub format_one : Determined _ format-kinds.ps format-kinds.r format-reads.Post (List ℕ) (λ _ _ w. w.0)
 format_one κs a r₁ r₂ w₁ w₂ p q = does_same _ _ r₁ r₂ w₁.0 w₂.0 p q

@@ -1,10 +1,10 @@
 -- Equal results of the public functions of model.
 use mathlib.Core.Path.{refl, sym, ◌∙◌}
 use Rattle.determined.proofs.Determined.{Determined, Nothing-seen, none_seen}
-use Rattle.model.proofs.refusal_number.Reads as refusal-number-reads
-use Rattle.model.proofs.refusal_number.Kinds as refusal-number-kinds
-use Rattle.model.proofs.kind_number.Reads as kind-number-reads
-use Rattle.model.proofs.kind_number.Kinds as kind-number-kinds
+use Rattle.model.proofs.U8FromRefusal.from.Reads as refusal-number-reads
+use Rattle.model.proofs.U8FromRefusal.from.Kinds as refusal-number-kinds
+use Rattle.model.proofs.U8FromKind.from.Reads as kind-number-reads
+use Rattle.model.proofs.U8FromKind.from.Kinds as kind-number-kinds
 use Rattle.model.proofs.key_of.Reads as key-of-reads
 use Rattle.model.proofs.key_of.Kinds as key-of-kinds
 

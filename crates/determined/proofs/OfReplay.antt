@@ -2,7 +2,8 @@
 use Prim.Native.Nat.{ℕ}
 use mathlib.Core.Path.{◌≡◌, refl, sym, ap, ◌∙◌}
 use mathlib.Core.List.{List}
-use mathlib.Core.Bool.{Bool}
+use Rattle.std.specs.Option.{is_some}
+use Rattle.std.specs.Prelude.{Option, Some, None}
 use mir.Syntax.{Dict}
 use denote.RattleType.{RattleType}
 use denote.Param.Laws.{Laws}
@@ -10,8 +11,7 @@ use Rattle.std.specs.declared.io.traits.Write.{Ghosts}
 use Rattle.model.specs.Bytes.{Bytes, view}
 use Rattle.ink.specs.Ink.{Sheet}
 use Rattle.ink.specs.declared.Ink.{Ink}
-use Rattle.lines.specs.Left.{Left, Leaves}
-use Rattle.lines.specs.declared.Said.{Said}
+use Rattle.lines.specs.Left.{Left, ink_left, Leaves}
 use Rattle.determined.proofs.Determined.{Determined}
 use Rattle.determined.proofs.OfInk.{prints_same}
 use Rattle.looks.proofs.run.Reads as looks-reads
@@ -33,17 +33,17 @@ rooms f g h = record { image = f; buffer = g; page = h }
 rooms_same : {f₁ f₂ g₁ g₂ h₁ h₂ : Bytes} → f₁ ≡ f₂ → g₁ ≡ g₂ → h₁ ≡ h₂ → rooms f₁ g₁ h₁ ≡ rooms f₂ g₂ h₂
 rooms_same p q r = rw (p, q, r)
 
-leaves_same : (o : Left) (s : Sheet) (r₁ r₂ : Said) (i₁ b₁ p₁ i₂ b₂ p₂ : List ℕ) → Leaves o s r₁ i₁ b₁ p₁ → Leaves o s r₂ i₂ b₂ p₂
+leaves_same : (o : Left) (s : Sheet) (r₁ r₂ : Option Ink) (i₁ b₁ p₁ i₂ b₂ p₂ : List ℕ) → Leaves o s r₁ i₁ b₁ p₁ → Leaves o s r₂ i₂ b₂ p₂
     → (r₁ ≡ r₂) × (rooms (view i₁) (view b₁) (view p₁) ≡ rooms (view i₂) (view b₂) (view p₂))
 leaves_same o s r₁ r₂ i₁ b₁ p₁ i₂ b₂ p₂ l m =
-    let e = prints_same o.text s r₁.ink r₂.ink p₁ p₂ l.page m.page in
+    let e = prints_same o.text s (ink_left s r₁) (ink_left s r₂) p₁ p₂ l.page m.page in
     (said_same r₁ r₂ e.0 (l.good ∙ sym m.good), rooms_same (l.image ∙ sym m.image) (l.buffer ∙ sym m.buffer) (ap view e.1))
   where
-    said : Ink → Bool → Said
-    said i g = record { ink = i; good = g }
-
-    said_same : (r₁ r₂ : Said) → r₁.ink ≡ r₂.ink → r₁.good ≡ r₂.good → r₁ ≡ r₂
-    said_same r₁ r₂ p q = ap (λ i. said i r₁.good) p ∙ ap (said r₂.ink) q
+    said_same : (r₁ r₂ : Option Ink) → ink_left s r₁ ≡ ink_left s r₂ → is_some r₁ ≡ is_some r₂ → r₁ ≡ r₂
+    said_same (Some i) (Some j) p q = ap (λ (k : Ink). Some k) p
+    said_same (Some i) None p q = cc
+    said_same None (Some j) p q = cc
+    said_same None None p q = refl
 
 -- the image is lent to be read
 pub looks_one : Determined _ looks-kinds.ps looks-kinds.r looks-reads.Post Rooms

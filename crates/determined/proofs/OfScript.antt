@@ -1,9 +1,11 @@
 -- Equal results of the functions that take a script's line apart.
 use mathlib.Core.Path.{◌≡◌, refl, sym, ap, ◌∙◌}
-use mathlib.Core.Bool.{Bool}
 use Rattle.model.specs.Bytes.{Bytes, view}
 use Rattle.script.specs.Fields.{Fields}
-use Rattle.lines.specs.declared.Line.{Line}
+use Rattle.lines.specs.declared.BadFields.{BadFields}
+use Rattle.lines.specs.Commands.{named_by}
+use Rattle.std.specs.Prelude.{Result, Ok, Err}
+use Rattle.std.specs.Result.{is_ok}
 use Rattle.lines.specs.declared.Command.{Command}
 use Rattle.determined.proofs.Determined.{Determined, Nothing-seen, none_seen}
 use Rattle.script.proofs.line_end.Reads as line-end-reads
@@ -45,8 +47,11 @@ read_line_one κs a r₁ r₂ w₁ w₂ p q = (
   kept_same (p.1.0.values ∙ sym q.1.0.values) (p.1.0.room ∙ sym q.1.0.room) (p.1.0.buffer ∙ sym q.1.0.buffer),
 )
   where
-    line : Command → Bool → Line
-    line k g = record { command = k; good = g }
+    bad : Command → BadFields
+    bad k = record { command = k }
 
-    line_same : (r₁ r₂ : Line) → r₁.command ≡ r₂.command → r₁.good ≡ r₂.good → r₁ ≡ r₂
-    line_same r₁ r₂ p q = ap (λ k. line k r₁.good) p ∙ ap (line r₂.command) q
+    line_same : (r₁ r₂ : Result Command BadFields) → named_by r₁ ≡ named_by r₂ → is_ok r₁ ≡ is_ok r₂ → r₁ ≡ r₂
+    line_same (Ok j) (Ok k) p q = ap (λ (c : Command). Ok c) p
+    line_same (Ok j) (Err e) p q = cc
+    line_same (Err d) (Ok k) p q = cc
+    line_same (Err d) (Err e) p q = ap (λ (c : Command). Err (bad c)) p

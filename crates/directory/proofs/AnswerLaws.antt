@@ -1,9 +1,12 @@
 -- What an answer says of the slot or the target that it stands for, and that these lie on the volume. Assumes nothing.
+use Rattle.model.specs.declared.Refusal.{Refusal}
+use Rattle.model.specs.declared.Refusal.TheVariants.{NoVolume, NoDirectory}
 use mathlib.Core.Path.{◌≡◌, refl, sym, ap, subst, ◌∙◌}
 use mathlib.Core.Bool.{Bool, true, false}
 use mathlib.Core.List.{List, [], ◌∷◌, Memᴰ}
 use mathlib.Core.Logic.{⊎_elim}
 use mathlib.Core.Option.{Option, none, some}
+use Rattle.std.specs.Prelude.{Some, None, Result, Ok, Err}
 use Prim.Native.Nat.{ℕ, zero, suc, ◌+◌, ◌*◌, ◌/◌, ◌≤◌, ◌<◌}
 use lib.ListN.{drop}
 use lib.Dec.{eqb}
@@ -11,17 +14,15 @@ use native.Mathlib.Omega.{arith}
 use borrow.Author.Tests.{eqb-true, eqb-false}
 use Rattle.model.specs.Bytes.{Bytes, run}
 use Rattle.model.specs.Names.{Part, same_name}
-use Rattle.model.specs.Directory.{at, block_of, volume, sort, is_active, is_directory, key, used, slots, kids, vacant, seek, Target, no_volume, no_directory, missing, there, last, along, lookup}
+use Rattle.model.specs.Directory.{place, at, block_of, volume, sort, is_active, is_directory, key, used, slots, kids, vacant, seek, Target, no_volume, no_directory, missing, there, last, along, lookup}
 use Rattle.model.specs.Calls.{is_there, spot}
 use Rattle.model.specs.declared.Entry.{Entry}
 use Rattle.model.specs.declared.Place.{Place}
-use Rattle.model.specs.declared.Found.TheVariants as found
 use Rattle.model.proofs.Laws.Lookup.{directory_is}
 use Rattle.directory.specs.Slots.{place_number, place_of, Counted, entry_of}
-use Rattle.directory.specs.Search.{Each, Searchable, listed, found_at, vacancy_at}
+use Rattle.directory.specs.Search.{Each, Readable, Searchable, listed, vacancy_at}
 use Rattle.directory.specs.Lookup.{Reached, top, below, Sane, home_of, looked_as}
 use Rattle.directory.specs.declared.Home.{Home}
-use Rattle.directory.specs.declared.Vacancy.TheVariants as vacancy
 use Rattle.directory.specs.declared.Looked.{Looked}
 use Rattle.directory.specs.declared.Looked.TheVariants as looked
 use Rattle.directory.proofs.SlotLaws.{never, place_number_law}
@@ -36,24 +37,11 @@ place_is : (s : ℕ) (l : Place) → place_of s ≡ l → s ≡ place_number l
 place_is s l e = sym (place_number_law s) ∙ ap place_number e
 
 -- Answers of searches.
-pub found_some : (v : Bytes) (o : Option ℕ) (l : Place) (e : Entry) → found_at v o ≡ found.At l e
-    → (o ≡ some (place_number l)) × (e ≡ entry_of v (at (place_number l))) × Counted l
-found_some v none l e h = never (cc)
-found_some v (some s) l e h =
-    let p : place_of s ≡ l = cc in
-    let f : entry_of v (at s) ≡ e = cc in
-    let q : s ≡ place_number l = place_is s l p in
-    (ap some q, sym f ∙ ap (λ t. entry_of v (at t)) q, place_counted s l p)
-
-pub found_none : (v : Bytes) (o : Option ℕ) → found_at v o ≡ found.Missing → o ≡ none
-found_none v none h = refl
-found_none v (some s) h = never (cc)
-
-pub vacancy_some : (o : Option ℕ) (l : Place) → vacancy_at o ≡ vacancy.Slot l → (o ≡ some (place_number l)) × Counted l
+pub vacancy_some : (o : Option ℕ) (l : Place) → vacancy_at o ≡ Some l → (o ≡ some (place_number l)) × Counted l
 vacancy_some none l h = never (cc)
 vacancy_some (some s) l h = let p : place_of s ≡ l = cc in (ap some (place_is s l p), place_counted s l p)
 
-pub vacancy_none : (o : Option ℕ) → vacancy_at o ≡ vacancy.Full → o ≡ none
+pub vacancy_none : (o : Option ℕ) → vacancy_at o ≡ None → o ≡ none
 vacancy_none none h = refl
 vacancy_none (some s) h = never (cc)
 
@@ -66,10 +54,10 @@ pub record Stands (v : Bytes) (t : Target) (h : Home) (l : Place) (e : Entry) : 
   pub lower : place_number l ≡ volume → ⊥
 
 module _ (v : Bytes) (d s : ℕ) where
-  abbrev answer : Bool → Looked
-  answer b = elim b [ true ↦ looked.Volume | false ↦ looked.There (home_of v d) (place_of s) (entry_of v (at s)) ]
+  abbrev answer : Bool → Result Looked Refusal
+  answer b = elim b [ true ↦ Ok looked.Volume | false ↦ Ok (looked.There (home_of v d) (place_of s) (entry_of v (at s))) ]
 
-  stands_by : (b : Bool) → eqb s volume ≡ b → (h : Home) (l : Place) (e : Entry) → answer b ≡ looked.There h l e → Stands v (there d s) h l e
+  stands_by : (b : Bool) → eqb s volume ≡ b → (h : Home) (l : Place) (e : Entry) → answer b ≡ Ok (looked.There h l e) → Stands v (there d s) h l e
   stands_by true p h l e q = never (cc)
   stands_by false p h l e q =
       let x : home_of v d ≡ h = cc in
@@ -85,22 +73,22 @@ module _ (v : Bytes) (d s : ℕ) where
         lower = λ k. eqb-false s volume p (j ∙ k);
       }
 
-  volume_by : (b : Bool) → eqb s volume ≡ b → answer b ≡ looked.Volume → s ≡ volume
+  volume_by : (b : Bool) → eqb s volume ≡ b → answer b ≡ Ok looked.Volume → s ≡ volume
   volume_by true p q = eqb-true s volume p
   volume_by false p q = never (cc)
 
-  there_not : (b : Bool) → (answer b ≡ looked.NoVolume → ⊥) × (answer b ≡ looked.NoDirectory → ⊥) × ((h : Home) → answer b ≡ looked.Missing h → ⊥)
+  there_not : (b : Bool) → (answer b ≡ Err NoVolume → ⊥) × (answer b ≡ Err NoDirectory → ⊥) × ((h : Home) → answer b ≡ Ok (looked.Missing h) → ⊥)
   there_not true = (λ q. never (cc), λ q. never (cc), λ h q. never (cc))
   there_not false = (λ q. never (cc), λ q. never (cc), λ h q. never (cc))
 
 module _ (v : Bytes) where
-  pub looked_there : (t : Target) (h : Home) (l : Place) (e : Entry) → looked_as v t ≡ looked.There h l e → Stands v t h l e
+  pub looked_there : (t : Target) (h : Home) (l : Place) (e : Entry) → looked_as v t ≡ Ok (looked.There h l e) → Stands v t h l e
   looked_there no_volume h l e q = never (cc)
   looked_there no_directory h l e q = never (cc)
   looked_there (missing d) h l e q = never (cc)
   looked_there (there d s) h l e q = stands_by v d s (eqb s volume) refl h l e q
 
-  pub looked_missing : (t : Target) (h : Home) → looked_as v t ≡ looked.Missing h
+  pub looked_missing : (t : Target) (h : Home) → looked_as v t ≡ Ok (looked.Missing h)
       → (t ≡ missing (place_number h.place)) × (h ≡ home_of v (place_number h.place))
   looked_missing no_volume h q = never (cc)
   looked_missing no_directory h q = never (cc)
@@ -110,20 +98,20 @@ module _ (v : Bytes) where
       (ap missing i, sym x ∙ ap (home_of v) i)
   looked_missing (there d s) h q = absurd ((there_not v d s (eqb s volume)).2 h q)
 
-  pub looked_volume : (t : Target) → looked_as v t ≡ looked.Volume → (is_there t ≡ true) × (spot t ≡ volume)
+  pub looked_volume : (t : Target) → looked_as v t ≡ Ok looked.Volume → (is_there t ≡ true) × (spot t ≡ volume)
   unfolding is_there spot
   looked_volume no_volume q = never (cc)
   looked_volume no_directory q = never (cc)
   looked_volume (missing d) q = never (cc)
   looked_volume (there d s) q = (refl, volume_by v d s (eqb s volume) refl q)
 
-  pub looked_no_directory : (t : Target) → looked_as v t ≡ looked.NoDirectory → t ≡ no_directory
+  pub looked_no_directory : (t : Target) → looked_as v t ≡ Err NoDirectory → t ≡ no_directory
   looked_no_directory no_volume q = never (cc)
   looked_no_directory no_directory q = refl
   looked_no_directory (missing d) q = never (cc)
   looked_no_directory (there d s) q = absurd ((there_not v d s (eqb s volume)).1 q)
 
-  pub looked_no_volume : (t : Target) → looked_as v t ≡ looked.NoVolume → t ≡ no_volume
+  pub looked_no_volume : (t : Target) → looked_as v t ≡ Err NoVolume → t ≡ no_volume
   looked_no_volume no_volume q = refl
   looked_no_volume no_directory q = never (cc)
   looked_no_volume (missing d) q = never (cc)
@@ -168,6 +156,13 @@ in_drop (x ∷ xs) s m = mathlib.Core.List.Memᴰ.tail m
 
 pub listed_inside : (n : ℕ) (v : Bytes) (k u s : ℕ) → Searchable n v k u → Memᴰ s (listed v k u) → block_of s < n
 listed_inside n v k u s h m = slots_inside n _ s h.inside (in_drop _ s m)
+
+pub place_listed : (n : ℕ) (v : Bytes) (k u : ℕ) (l : Place) → Searchable n v k u → Counted l → Memᴰ (place_number l) (listed v k u)
+    → (l.block * 512 + 512 ≤ n * 512) × Readable v (place_number l)
+unfolding place
+place_listed n v k u l h c m =
+    let b : block_of (place_number l) < n = listed_inside n v k u (place_number l) h m in
+    (omega (arith, b, c), h.entries (place_number l) m)
 
 pub kids_inside : (n : ℕ) (v : Bytes) (d s : ℕ) → Sane n v → Reached v d → Memᴰ s (kids v d) → block_of s < n
 kids_inside n v d s sane r m = listed_inside n v (key v d) (used v d) s (sane d r) (subst (Memᴰ s) (reached_kids v d r) m)

@@ -1,8 +1,11 @@
 -- A lookup goes on name by name, from directory to directory. Assumes nothing.
+use Rattle.model.specs.declared.Refusal.TheVariants.{NoDirectory}
 use mathlib.Core.Path.{◌≡◌, refl, sym, ap, subst, ◌∙◌}
 use mathlib.Core.Bool.{Bool, true, false}
 use mathlib.Core.List.{List, [], ◌∷◌, Memᴰ}
+use mathlib.Core.Logic.{◌⊎◌, ⊎_elim}
 use mathlib.Core.Option.{Option, none, some}
+use Rattle.std.specs.Prelude.{Some, None, Ok, Err}
 use Prim.Native.Nat.{ℕ, zero, suc, ◌+◌, ◌-◌, ◌≤◌, ◌<◌}
 use lib.ListN.{length, take, drop}
 use native.Mathlib.Omega.{arith}
@@ -11,7 +14,6 @@ use Rattle.model.specs.Bytes.{Bytes, view, ◌and◌}
 use Rattle.model.specs.Names.{Part, part, same_name, proper_parts, parts, proper_path}
 use Rattle.model.specs.Directory.{at, volume, Sort, inactive, directory, improper, file, sort, is_active, is_directory, field, key, used, chain, slots_below, kids, seek, Target, no_volume, no_directory, last, along, lookup}
 use Rattle.model.specs.declared.Place.{Place}
-use Rattle.model.specs.declared.Found.{Found}
 use Rattle.names.specs.declared.Cursor.{Cursor}
 use Rattle.names.specs.Steps.{parts_left, step_at, step_end}
 use Rattle.names.specs.declared.Step.{Step}
@@ -20,10 +22,9 @@ use Rattle.names.proofs.Laws.{and_left, and_right, within_true}
 use Rattle.names.proofs.CursorLaws.{Stepped, stepped_bounds, stepped_left, stepped_proper, left_done, left_more, left_name, left_start}
 use Rattle.names.proofs.PartLaws.{same_at}
 use Rattle.directory.specs.Slots.{place_number, place_of, kind_of, entry_of}
-use Rattle.directory.specs.Search.{Each, Readable, Searchable, listed, found_at, found_in}
+use Rattle.directory.specs.Search.{Each, Readable, Searchable, listed, Found, found_at, found_in}
 use Rattle.directory.specs.Lookup.{Reached, top, below, Sane, home_of, looked_as, last_of, inner_as, inner_of}
 use Rattle.directory.specs.declared.Home.{Home}
-use Rattle.directory.specs.declared.Inner.TheVariants as inner
 use Rattle.directory.specs.declared.Looked.TheVariants as looked
 use Rattle.directory.proofs.SlotLaws.{never, place_number_law, entry_kind, entry_used, slot_named}
 use Rattle.directory.proofs.SearchLaws.{seek_here, seek_past}
@@ -65,7 +66,7 @@ unfolding slots_below
 reached_kids v d r = rw (reached_directory v d r)
 
 -- what an active entry of one of the four kinds is as a middle name
-inner_directory : (t : Sort) (k u : ℕ) (l : Place) (h : Home) → is_active t ≡ true → (t ≡ improper → ⊥) → inner_as (kind_of t k) l u ≡ inner.Directory h
+inner_directory : (t : Sort) (k u : ℕ) (l : Place) (h : Home) → is_active t ≡ true → (t ≡ improper → ⊥) → inner_as (kind_of t k) l u ≡ Some h
     → (t ≡ directory) × (h ≡ record { place = l; key = k; used = u })
 inner_directory inactive k u l h a i e = never (cc)
 inner_directory improper k u l h a i e = absurd (i refl)
@@ -74,7 +75,7 @@ inner_directory (file zero) k u l h a i e = never (cc)
 inner_directory (file (suc zero)) k u l h a i e = never (cc)
 inner_directory (file (suc (suc m))) k u l h a i e = never (cc)
 
-inner_other : (t : Sort) (k u : ℕ) (l : Place) → inner_as (kind_of t k) l u ≡ inner.Other → is_directory t ≡ false
+inner_other : (t : Sort) (k u : ℕ) (l : Place) → inner_as (kind_of t k) l u ≡ None → is_directory t ≡ false
 inner_other inactive k u l e = refl
 inner_other improper k u l e = refl
 inner_other directory k u l e = never (cc)
@@ -88,12 +89,12 @@ module _ (v p : Bytes) (d : ℕ) (r : Reached v d) (good : Each (Readable v) (li
   sought_kids : seek v p x (kids v d) ≡ sought
   sought_kids = ap (seek v p x) (reached_kids v d r)
 
-  last_by : (o : Option ℕ) → sought ≡ o → looked_as v (last o d) ≡ last_of (home_of v d) (found_at v o)
+  last_by : (o : Option ℕ) → sought ≡ o → looked_as v (last o d) ≡ Ok (last_of (home_of v d) (found_at v o))
   unfolding last
   last_by none e = refl
   last_by (some s) e = rw (ne_eqb s volume (good s (seek_some v p x _ s e).0).entry, looked_as)
 
-  pub name_last : looked_as v (along v p d (x ∷ [])) ≡ last_of (home_of v d) (found_at v sought)
+  pub name_last : looked_as v (along v p d (x ∷ [])) ≡ Ok (last_of (home_of v d) (found_at v sought))
   unfolding along
   name_last = ap (λ o. looked_as v (last o d)) sought_kids ∙ last_by sought refl
 
@@ -114,11 +115,11 @@ module _ (v p : Bytes) (d : ℕ) (r : Reached v d) (good : Each (Readable v) (li
         ap (λ k. inner_as k (place_of s) (entry_of v (at s)).used) (entry_kind v s n)
         ∙ ap (inner_as (kind_of (sort v s) (key v s)) (place_of s)) (entry_used v s n)
 
-    stop_by : (o : Option ℕ) → sought ≡ o → inner_of (found_at v o) ≡ inner.Other → beyond o ≡ no_directory
+    stop_by : (o : Option ℕ) → sought ≡ o → inner_of (found_at v o) ≡ None → beyond o ≡ no_directory
     stop_by none e h = refl
     stop_by (some s) e h = rw (inner_other (sort v s) (key v s) (used v s) (place_of s) (sym (found_kind s e) ∙ h), beyond)
 
-    pub name_stops : inner_of (found_at v sought) ≡ inner.Other → along v p d (x ∷ y ∷ ys) ≡ no_directory
+    pub name_stops : inner_of (found_at v sought) ≡ None → along v p d (x ∷ y ∷ ys) ≡ no_directory
     name_stops h = along_beyond ∙ stop_by sought refl h
 
     -- the home of the names that follow
@@ -138,14 +139,14 @@ module _ (v p : Bytes) (d : ℕ) (r : Reached v d) (good : Each (Readable v) (li
           same = rw q (along_beyond ∙ ap beyond e ∙ b);
         }
 
-    enter_by : (o : Option ℕ) (h : Home) → sought ≡ o → inner_of (found_at v o) ≡ inner.Directory h → Entered h
+    enter_by : (o : Option ℕ) (h : Home) → sought ≡ o → inner_of (found_at v o) ≡ Some h → Entered h
     enter_by none h e i = never (cc)
     enter_by (some s) h e i =
         let w = seek_some v p x _ s e in
         let q = inner_directory (sort v s) (key v s) (used v s) (place_of s) h w.1 (good s w.0).proper (sym (found_kind s e) ∙ i) in
         enter_at s h e q.0 q.1
 
-    pub name_enters : (h : Home) → inner_of (found_at v sought) ≡ inner.Directory h → Entered h
+    pub name_enters : (h : Home) → inner_of (found_at v sought) ≡ Some h → Entered h
     name_enters h i = enter_by sought h refl i
 
 -- Where proper names are left, a step finds one.
@@ -153,11 +154,10 @@ module _ (xs : List ℕ) (a : ℕ) (before : a < length xs) (proper : proper_par
   abbrev first_step : Step
   first_step = Name (a + 1) (step_end (view xs) (length xs) a) (record { at = step_end (view xs) (length xs) a })
 
-  pub no_end : {A : Type 0} → step_at (view xs) (length xs) a ≡ End → A
-  no_end e = let q : first_step ≡ End = sym (left_name (view xs) (length xs) a before proper) ∙ e in never (cc)
-
-  pub no_bad : {A : Type 0} → step_at (view xs) (length xs) a ≡ Bad → A
-  no_bad e = let q : first_step ≡ Bad = sym (left_name (view xs) (length xs) a before proper) ∙ e in never (cc)
+  pub no_name : {A : Type 0} (r : Step) → r ≡ step_at (view xs) (length xs) a → (r ≡ End) ⊎ (r ≡ Bad) → A
+  no_name r i o =
+      let n : r ≡ first_step = i ∙ left_name (view xs) (length xs) a before proper in
+      ⊎_elim (λ (e : r ≡ End). never (cc)) (λ (e : r ≡ Bad). never (cc)) o
 
 -- a name that a step has found lies in the path
 pub stepped_within : (p : Bytes) (n a s e : ℕ) (c : Cursor) → Stepped p n a s e c → (s ≤ e) × (e ≤ n)
@@ -204,23 +204,23 @@ module _ (n : ℕ) (v : Bytes) (xs : List ℕ) (all : Target) (h : Home) (a : �
     entries : Each (Readable v) (listed v (key v home_place) (used v home_place))
     entries = (sane home_place w.reached).entries
 
-    pub turn_last : (f : Found) → f ≡ found_in v name (listed v h.key h.used) → e ≡ length xs → looked_as v all ≡ last_of h f
+    pub turn_last : (f : Found) → f ≡ found_in v name (listed v h.key h.used) → e ≡ length xs → looked_as v all ≡ Ok (last_of h f)
     turn_last f i l =
         ap (looked_as v) (left ∙ ap (λ r. along v (view xs) home_place (part s (e - s) ∷ r)) (left_done (view xs) (length xs) e (omega arith)))
         ∙ name_last v (view xs) home_place w.reached entries (part s (e - s))
-        ∙ ap (λ g. last_of g (found_at v (seek v (view xs) (part s (e - s)) (listed v (key v home_place) (used v home_place))))) (sym w.known)
-        ∙ ap (last_of h) (sym (i ∙ found_known))
+        ∙ ap (λ g. Ok (last_of g (found_at v (seek v (view xs) (part s (e - s)) (listed v (key v home_place) (used v home_place)))))) (sym w.known)
+        ∙ ap (λ g. Ok (last_of h g)) (sym (i ∙ found_known))
 
     module _ (more : e < length xs) where
       onward : all ≡ along v (view xs) home_place (part s (e - s) ∷ part (e + 1) (step_end (view xs) (length xs) e - (e + 1)) ∷ parts_left (view xs) (length xs) (step_end (view xs) (length xs) e))
       onward = left ∙ ap (λ r. along v (view xs) home_place (part s (e - s) ∷ r)) (left_more (view xs) (length xs) e more)
 
-      pub turn_stops : (f : Found) → f ≡ found_in v name (listed v h.key h.used) → inner_of f ≡ inner.Other → looked_as v all ≡ looked.NoDirectory
+      pub turn_stops : (f : Found) → f ≡ found_in v name (listed v h.key h.used) → inner_of f ≡ None → looked_as v all ≡ Err NoDirectory
       turn_stops f i o =
           ap (looked_as v)
           (onward ∙ name_stops v (view xs) home_place w.reached entries (part s (e - s)) _ _ (sym (ap inner_of (i ∙ found_known)) ∙ o))
 
-      pub turn_on : (f : Found) (g : Home) → f ≡ found_in v name (listed v h.key h.used) → inner_of f ≡ inner.Directory g → Walking v xs all g e
+      pub turn_on : (f : Found) (g : Home) → f ≡ found_in v name (listed v h.key h.used) → inner_of f ≡ Some g → Walking v xs all g e
       turn_on f g i o =
           let t = name_enters v (view xs) home_place w.reached entries (part s (e - s)) _ _ g (sym (ap inner_of (i ∙ found_known)) ∙ o) in
           record {
@@ -269,7 +269,7 @@ module _ (img xs : List ℕ) (s e : ℕ) (c : Cursor) (q : Stepped (view xs) (le
   lookup_names h = rw (first_parts, h, lookup)
 
   pub lookup_volume : same_name (view img) (at volume) (view xs) (part s (e - s)) ≡ true → e ≡ length xs
-      → looked_as (view img) (lookup (view img) (view xs) (parts (view xs) (length xs))) ≡ looked.Volume
+      → looked_as (view img) (lookup (view img) (view xs) (parts (view xs) (length xs))) ≡ Ok looked.Volume
   unfolding along
   lookup_volume h l =
       ap (looked_as (view img))

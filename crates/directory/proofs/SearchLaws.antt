@@ -2,23 +2,23 @@
 use mathlib.Core.Path.{◌≡◌, refl, sym, ap, subst, ◌∙◌}
 use mathlib.Core.Bool.{Bool, true, false}
 use mathlib.Core.List.Memᴰ
-use mathlib.Core.List.{List, [], ◌∷◌, ◌++◌}
-use mathlib.Core.Option.{Option, none, some}
+use mathlib.Core.List.{List, [], ◌∷◌, ◌++◌, Memᴰ}
+use mathlib.Core.Option.{some}
+use Rattle.std.specs.Prelude as std
+use Rattle.std.specs.Prelude.{Some, None, is_some}
 use Prim.Native.Nat.{ℕ, zero, suc, ◌+◌, ◌-◌, ◌≤◌, ◌<◌}
-use lib.ListN.{drop}
+use lib.ListN.{length, drop}
 use lib.Seq.{drop-nil}
 use native.Mathlib.Omega.{arith}
-use Rattle.model.specs.Bytes.{Bytes, run, ◌and◌}
-use Rattle.model.specs.Names.{Part, same_name}
+use Rattle.model.specs.Bytes.{Bytes, view, run, ◌and◌}
+use Rattle.model.specs.Names.{Part, part, same_name}
 use Rattle.model.specs.Directory.{place, at, next, sort, is_active, chain, slots, seek, vacant}
 use Rattle.model.specs.declared.Entry.{Entry}
 use Rattle.model.specs.declared.Place.{Place}
-use Rattle.model.specs.declared.Found.TheVariants as found
-use Rattle.model.proofs.TestLaws.{and_off}
+use Rattle.model.proofs.TestLaws.{and_off, and_left, and_right}
 use Rattle.directory.specs.Slots.{place_number, place_of, Counted, entry_of, slot_says}
 use Rattle.directory.specs.declared.Slot.TheVariants.{Active}
-use Rattle.directory.specs.Search.{Each, Readable, Searchable, slots_from, found_at, vacancy_at}
-use Rattle.directory.specs.declared.Vacancy.TheVariants as vacancy
+use Rattle.directory.specs.Search.{Each, Searchable, slots_from, Found, found_at, found_in, vacancy_at, first_of, LooksAt}
 use Rattle.directory.proofs.SlotLaws.{never, place_one, place_two, place_next, place_of_law, says_active}
 
 -- What holds of every number in a list.
@@ -35,10 +35,49 @@ module _ (P : ℕ → Type 0) where
   pub each_back : (xs ys zs : List ℕ) → zs ≡ xs ++ ys → Each P zs → Each P ys
   each_back xs ys zs e h y m = subst (λ (l : List ℕ). Each P l) e h y (Memᴰ.append_right xs m)
 
--- The first answer of two.
-unfoldable pub or_else : Option ℕ → Option ℕ → Option ℕ
-or_else none o = o
-or_else (some s) o = some s
+-- The first answer at a list of slots.
+module _ {A : Type 0} (f : ℕ → std.Option A) where
+  first_here : (s : ℕ) (ss : List ℕ) (o : std.Option A) → o ≡ f s → is_some o ≡ true → first_of f (s ∷ ss) ≡ o
+  unfolding first_of
+  first_here s ss None e h = never (cc)
+  first_here s ss (Some x) e h = rw (← e, first_of)
+
+  first_past : (s : ℕ) (ss : List ℕ) (o : std.Option A) → o ≡ f s → is_some o ≡ false → first_of f (s ∷ ss) ≡ first_of f ss
+  unfolding first_of
+  first_past s ss None e h = rw (← e, first_of)
+  first_past s ss (Some x) e h = never (cc)
+
+  front_by : (s : ℕ) (ss ys : List ℕ) (o r : std.Option A) → o ≡ f s → r ≡ first_of f (s ∷ ss) → is_some r ≡ true
+      → ((r : std.Option A) → r ≡ first_of f ss → is_some r ≡ true → first_of f (ss ++ ys) ≡ r) → first_of f (s ∷ ss ++ ys) ≡ r
+  front_by s ss ys None r e g h go = first_past s (ss ++ ys) None e refl ∙ go r (g ∙ first_past s ss None e refl) h
+  front_by s ss ys (Some x) r e g h go = first_here s (ss ++ ys) (Some x) e refl ∙ sym (g ∙ first_here s ss (Some x) e refl)
+
+  first_front : (xs ys : List ℕ) (r : std.Option A) → r ≡ first_of f xs → is_some r ≡ true → first_of f (xs ++ ys) ≡ r
+  unfolding first_of
+  first_front [] ys r e h = never (cc)
+  first_front (s ∷ ss) ys r e h = front_by s ss ys (f s) r refl e h (first_front ss ys)
+
+  back_by : (s : ℕ) (ss ys : List ℕ) (o r : std.Option A) → o ≡ f s → r ≡ first_of f (s ∷ ss) → is_some r ≡ false
+      → ((r : std.Option A) → r ≡ first_of f ss → is_some r ≡ false → first_of f (ss ++ ys) ≡ first_of f ys) → first_of f (s ∷ ss ++ ys) ≡ first_of f ys
+  back_by s ss ys None r e g h go = first_past s (ss ++ ys) None e refl ∙ go r (g ∙ first_past s ss None e refl) h
+  back_by s ss ys (Some x) r e g h go = let w : r ≡ Some x = g ∙ first_here s ss (Some x) e refl in never (cc)
+
+  first_back : (xs ys : List ℕ) (r : std.Option A) → r ≡ first_of f xs → is_some r ≡ false → first_of f (xs ++ ys) ≡ first_of f ys
+  first_back [] ys r e h = refl
+  first_back (s ∷ ss) ys r e h = back_by s ss ys (f s) r refl e h (first_back ss ys)
+
+pub first_one : {A : Type 0} (f : ℕ → std.Option A) (s : ℕ) (o : std.Option A) → o ≡ f s → o ≡ first_of f (s ∷ [])
+unfolding first_of
+first_one f s None e = sym (first_past f s [] None e refl)
+first_one f s (Some x) e = sym (first_here f s [] (Some x) e refl)
+
+-- A walk that has looked at the slots xs, of zs, and was answered o: it ends with o, or goes on at the others.
+module _ {A : Type 0} (f : ℕ → std.Option A) (xs ys zs : List ℕ) (e : zs ≡ xs ++ ys) (all o : std.Option A) (same : all ≡ first_of f zs) (asked : o ≡ first_of f xs) where
+  pub walk_ends : is_some o ≡ true → o ≡ all
+  walk_ends h = sym (same ∙ ap (first_of f) e ∙ first_front f xs ys o asked h)
+
+  pub walk_goes_on : is_some o ≡ false → all ≡ first_of f ys
+  walk_goes_on h = same ∙ ap (first_of f) e ∙ first_back f xs ys o asked h
 
 module _ (v p : Bytes) (x : Part) where
   pub seek_here : (s : ℕ) (ss : List ℕ) → is_active (sort v s) ≡ true → same_name v (at s) p x ≡ true → seek v p x (s ∷ ss) ≡ some s
@@ -48,18 +87,6 @@ module _ (v p : Bytes) (x : Part) where
   pub seek_past : (s : ℕ) (ss : List ℕ) → (is_active (sort v s) and same_name v (at s) p x) ≡ false → seek v p x (s ∷ ss) ≡ seek v p x ss
   unfolding seek
   seek_past s ss h = rw (h, seek)
-
-  seek_by : (s : ℕ) (ss ys : List ℕ) (b : Bool) → (is_active (sort v s) and same_name v (at s) p x) ≡ b
-      → seek v p x (ss ++ ys) ≡ or_else (seek v p x ss) (seek v p x ys)
-      → seek v p x (s ∷ ss ++ ys) ≡ or_else (seek v p x (s ∷ ss)) (seek v p x ys)
-  unfolding seek or_else
-  seek_by s ss ys true e h = rw (e, seek)
-  seek_by s ss ys false e h = rw (e, seek) h
-
-  pub seek_append : (xs ys : List ℕ) → seek v p x (xs ++ ys) ≡ or_else (seek v p x xs) (seek v p x ys)
-  unfolding seek or_else
-  seek_append [] ys = refl
-  seek_append (s ∷ ss) ys = seek_by s ss ys (is_active (sort v s) and same_name v (at s) p x) refl (seek_append ss ys)
 
 pub false_and : (b : Bool) → (false and b) ≡ false
 unfolding ◌and◌
@@ -74,80 +101,32 @@ module _ (v : Bytes) where
   unfolding vacant
   vacant_past s ss h = rw (h, vacant)
 
-  vacant_by : (s : ℕ) (ss ys : List ℕ) (b : Bool) → is_active (sort v s) ≡ b → vacant v (ss ++ ys) ≡ or_else (vacant v ss) (vacant v ys)
-      → vacant v (s ∷ ss ++ ys) ≡ or_else (vacant v (s ∷ ss)) (vacant v ys)
-  unfolding or_else
-  vacant_by s ss ys false e h =
-      vacant_here s (ss ++ ys) e ∙ ap (λ o. or_else o (vacant v ys)) (sym (vacant_here s ss e))
-  vacant_by s ss ys true e h =
-      vacant_past s (ss ++ ys) e ∙ h ∙ ap (λ o. or_else o (vacant v ys)) (sym (vacant_past s ss e))
-
-  pub vacant_append : (xs ys : List ℕ) → vacant v (xs ++ ys) ≡ or_else (vacant v xs) (vacant v ys)
-  unfolding vacant or_else
-  vacant_append [] ys = refl
-  vacant_append (s ∷ ss) ys = vacant_by s ss ys (is_active (sort v s)) refl (vacant_append ss ys)
-
--- An answer that was found stays the answer, and one that was missing leaves the rest to search.
-module _ (v : Bytes) (o q all : Option ℕ) (e : all ≡ or_else o q) where
-  found_stays_by : (o : Option ℕ) (l : Place) (f : Entry) → found_at v o ≡ found.At l f → found_at v (or_else o q) ≡ found_at v o
-  unfolding or_else
-  found_stays_by none l f h = never (cc)
-  found_stays_by (some s) l f h = refl
-
-  pub found_stays : (l : Place) (f : Entry) → found_at v o ≡ found.At l f → found_at v all ≡ found_at v o
-  found_stays l f h = ap (found_at v) e ∙ found_stays_by o l f h
-
-  found_rest_by : (o : Option ℕ) → found_at v o ≡ found.Missing → or_else o q ≡ q
-  unfolding or_else
-  found_rest_by none h = refl
-  found_rest_by (some s) h = never (cc)
-
-  pub found_rest : found_at v o ≡ found.Missing → all ≡ q
-  found_rest h = e ∙ found_rest_by o h
-
-module _ (o q all : Option ℕ) (e : all ≡ or_else o q) where
-  vacancy_stays_by : (o : Option ℕ) (l : Place) → vacancy_at o ≡ vacancy.Slot l → vacancy_at (or_else o q) ≡ vacancy_at o
-  unfolding or_else
-  vacancy_stays_by none l h = never (cc)
-  vacancy_stays_by (some s) l h = refl
-
-  pub vacancy_stays : (l : Place) → vacancy_at o ≡ vacancy.Slot l → vacancy_at all ≡ vacancy_at o
-  vacancy_stays l h = ap vacancy_at e ∙ vacancy_stays_by o l h
-
-  vacancy_rest_by : (o : Option ℕ) → vacancy_at o ≡ vacancy.Full → or_else o q ≡ q
-  unfolding or_else
-  vacancy_rest_by none h = refl
-  vacancy_rest_by (some s) h = never (cc)
-
-  pub vacancy_rest : vacancy_at o ≡ vacancy.Full → all ≡ q
-  vacancy_rest h = e ∙ vacancy_rest_by o h
-
 -- One slot.
 module _ (v p : Bytes) (x : Part) (l : Place) where
   pub found_here : (f : Entry) → Counted l → slot_says (sort v (place_number l)) (entry_of v (at (place_number l))) ≡ Active f
-      → same_name v (at (place_number l)) p x ≡ true → found.At l f ≡ found_at v (seek v p x (place_number l ∷ []))
+      → same_name v (at (place_number l)) p x ≡ true → Some (l, f) ≡ found_at v (seek v p x (place_number l ∷ []))
   found_here f h w m =
       let q = says_active (sort v (place_number l)) (entry_of v (at (place_number l))) f w in
       sym
       (ap (found_at v) (seek_here v p x (place_number l) [] q.0 m)
-      ∙ ap (found.At (place_of (place_number l))) q.1
-      ∙ ap (λ y. found.At y f) (place_of_law l h))
+      ∙ ap (λ y. Some (place_of (place_number l), y)) q.1
+      ∙ ap (λ y. Some (y, f)) (place_of_law l h))
 
-  found_past : (is_active (sort v (place_number l)) and same_name v (at (place_number l)) p x) ≡ false → found.Missing ≡ found_at v (seek v p x (place_number l ∷ []))
+  found_past : (is_active (sort v (place_number l)) and same_name v (at (place_number l)) p x) ≡ false → None ≡ found_at v (seek v p x (place_number l ∷ []))
   unfolding seek
   found_past h = sym (ap (found_at v) (seek_past v p x (place_number l) [] h))
 
-  pub found_other : same_name v (at (place_number l)) p x ≡ false → found.Missing ≡ found_at v (seek v p x (place_number l ∷ []))
+  pub found_other : same_name v (at (place_number l)) p x ≡ false → None ≡ found_at v (seek v p x (place_number l ∷ []))
   found_other m = found_past (rw m (and_off (is_active (sort v (place_number l)))))
 
-  pub found_inactive : is_active (sort v (place_number l)) ≡ false → found.Missing ≡ found_at v (seek v p x (place_number l ∷ []))
+  pub found_inactive : is_active (sort v (place_number l)) ≡ false → None ≡ found_at v (seek v p x (place_number l ∷ []))
   found_inactive a = found_past (rw a (false_and (same_name v (at (place_number l)) p x)))
 
 module _ (v : Bytes) (l : Place) where
-  pub vacancy_here : Counted l → is_active (sort v (place_number l)) ≡ false → vacancy.Slot l ≡ vacancy_at (vacant v (place_number l ∷ []))
-  vacancy_here h a = sym (ap vacancy_at (vacant_here v (place_number l) [] a) ∙ ap vacancy.Slot (place_of_law l h))
+  pub vacancy_here : Counted l → is_active (sort v (place_number l)) ≡ false → Some l ≡ vacancy_at (vacant v (place_number l ∷ []))
+  vacancy_here h a = sym (ap vacancy_at (vacant_here v (place_number l) [] a) ∙ ap Some (place_of_law l h))
 
-  pub vacancy_past : is_active (sort v (place_number l)) ≡ true → vacancy.Full ≡ vacancy_at (vacant v (place_number l ∷ []))
+  pub vacancy_past : is_active (sort v (place_number l)) ≡ true → None ≡ vacancy_at (vacant v (place_number l ∷ []))
   unfolding vacant
   vacancy_past a = sym (ap vacancy_at (vacant_past v (place_number l) [] a))
 
@@ -163,21 +142,66 @@ module _ (b t : ℕ) where
   unfolding run
   slots_done h = let e : 14 - t ≡ 0 = omega arith in ap (run (place b t)) e
 
-module _ (v : Bytes) (b t : ℕ) (all : Option ℕ) (low : 1 ≤ t) (high : t ≤ 13) where
-  pub seek_slot : (p : Bytes) (x : Part) → all ≡ seek v p x (slots_from b t)
-      → all ≡ or_else (seek v p x (place b t ∷ [])) (seek v p x (slots_from b (t + 1)))
-  seek_slot p x e = e ∙ ap (seek v p x) (slots_more b t low high) ∙ seek_append v p x (place b t ∷ []) (slots_from b (t + 1))
+run_among : (a c i : ℕ) → i < c → Memᴰ (a + i) (run a c)
+unfolding run
+run_among a zero i l = never (omega arith)
+run_among a (suc c) zero l = let e : a + 0 ≡ a = omega arith in Memᴰ.head e
+run_among a (suc c) (suc i) l =
+    let e : a + suc i ≡ suc a + i = omega arith in
+    Memᴰ.tail (subst (λ (x : ℕ). Memᴰ x (run (suc a) c)) (sym e) (run_among (suc a) c i (omega arith)))
 
-  pub vacant_slot : all ≡ vacant v (slots_from b t) → all ≡ or_else (vacant v (place b t ∷ [])) (vacant v (slots_from b (t + 1)))
-  vacant_slot e = e ∙ ap (vacant v) (slots_more b t low high) ∙ vacant_append v (place b t ∷ []) (slots_from b (t + 1))
+pub slot_among : (b t s : ℕ) → 1 ≤ t → t ≤ s → s ≤ 13 → Memᴰ (place b s) (slots_from b t)
+unfolding place
+slot_among b t s h i l =
+    let e : place b t + (s - t) ≡ place b s = omega arith in
+    subst (λ (x : ℕ). Memᴰ x (slots_from b t)) e (run_among (place b t) (14 - t) (s - t) (omega arith))
 
-pub seek_none : (v p : Bytes) (x : Part) (all : Option ℕ) (ss : List ℕ) → ss ≡ [] → all ≡ seek v p x ss → found.Missing ≡ found_at v all
-unfolding seek
-seek_none v p x all ss e h = sym (ap (found_at v) (h ∙ ap (seek v p x) e))
+-- The places that may be looked at, in a part of the slots.
+module _ (pre : Place → Type 0) (xs ys zs : List ℕ) (e : zs ≡ xs ++ ys) (h : LooksAt pre zs) where
+  pub looks_front : LooksAt pre xs
+  looks_front l k m = h l k (subst (Memᴰ (place_number l)) (sym e) (Memᴰ.append_left ys m))
 
-pub vacant_none : (v : Bytes) (all : Option ℕ) (ss : List ℕ) → ss ≡ [] → all ≡ vacant v ss → vacancy.Full ≡ vacancy_at all
-unfolding vacant
-vacant_none v all ss e h = sym (ap vacancy_at (h ∙ ap (vacant v) e))
+  pub looks_back : LooksAt pre ys
+  looks_back l k m = h l k (subst (Memᴰ (place_number l)) (sym e) (Memᴰ.append_right xs m))
+
+-- A search by name, and one for an inactive slot, as the first answers of their slots.
+module _ (v : Bytes) (name : List ℕ) where
+  abbrev named : ℕ → Found
+  named s = found_in v name (s ∷ [])
+
+  found_by : (s : ℕ) (ss : List ℕ) (b : Bool) → (is_active (sort v s) and same_name v (at s) (view name) (part 0 (length name))) ≡ b
+      → first_of named ss ≡ found_in v name ss → first_of named (s ∷ ss) ≡ found_in v name (s ∷ ss)
+  unfolding seek
+  found_by s ss true e h =
+      let x = λ (ys : List ℕ). ap (found_at v) (seek_here v (view name) (part 0 (length name)) s ys (and_left _ _ e) (and_right _ _ e)) in
+      first_here named s ss _ (sym (x [])) refl ∙ sym (x ss)
+  found_by s ss false e h =
+      let x = λ (ys : List ℕ). ap (found_at v) (seek_past v (view name) (part 0 (length name)) s ys e) in
+      first_past named s ss _ (sym (x [])) refl ∙ h ∙ sym (x ss)
+
+  pub first_found : (ss : List ℕ) → first_of named ss ≡ found_in v name ss
+  unfolding seek first_of
+  first_found [] = refl
+  first_found (s ∷ ss) = found_by s ss _ refl (first_found ss)
+
+module _ (v : Bytes) where
+  abbrev free : ℕ → std.Option Place
+  free s = vacancy_at (vacant v (s ∷ []))
+
+  vacant_by : (s : ℕ) (ss : List ℕ) (b : Bool) → is_active (sort v s) ≡ b
+      → first_of free ss ≡ vacancy_at (vacant v ss) → first_of free (s ∷ ss) ≡ vacancy_at (vacant v (s ∷ ss))
+  unfolding vacant
+  vacant_by s ss false e h =
+      let x = λ (ys : List ℕ). ap vacancy_at (vacant_here v s ys e) in
+      first_here free s ss _ (sym (x [])) refl ∙ sym (x ss)
+  vacant_by s ss true e h =
+      let x = λ (ys : List ℕ). ap vacancy_at (vacant_past v s ys e) in
+      first_past free s ss _ (sym (x [])) refl ∙ h ∙ sym (x ss)
+
+  pub first_vacant : (ss : List ℕ) → first_of free ss ≡ vacancy_at (vacant v ss)
+  unfolding vacant first_of
+  first_vacant [] = refl
+  first_vacant (s ∷ ss) = vacant_by s ss _ refl (first_vacant ss)
 
 -- What is left of a chain: u blocks from b on, of which the first has slots from t on.
 abbrev pub rest : Bytes → ℕ → ℕ → ℕ → List ℕ
@@ -195,10 +219,9 @@ pub record Searching (n : ℕ) (v : Bytes) (b u t : ℕ) : Type 0 where
   pub low : 1 ≤ t
   pub high : t ≤ 2
   pub inside : Each (λ x. x < n) (chain v b u)
-  pub entries : Each (Readable v) (rest v b u t)
 
 pub searching : (n : ℕ) (v : Bytes) (k u : ℕ) → Searchable n v k u → Searching n v k u 2
-searching n v k u h = record { low = omega arith; high = omega arith; inside = h.inside; entries = h.entries }
+searching n v k u h = record { low = omega arith; high = omega arith; inside = h.inside }
 
 pub rest_done : (v : Bytes) (b u t : ℕ) → u ≤ 0 → rest v b u t ≡ []
 unfolding chain slots
@@ -214,21 +237,8 @@ module _ (v : Bytes) (b u t : ℕ) (more : 0 < u) where
   rest_more h l = ap (λ bs. drop (t - 1) (slots bs)) chain_more ∙ first_slots b t (chain v (next v b) (u - 1)) h l
 
   module _ (n : ℕ) (w : Searching n v b u t) where
-    pub seek_block : (p : Bytes) (x : Part) (all : Option ℕ) → all ≡ seek v p x (rest v b u t)
-        → all ≡ or_else (seek v p x (slots_from b t)) (seek v p x (rest v (next v b) (u - 1) 1))
-    seek_block p x all e =
-        e ∙ ap (seek v p x) (rest_more w.low w.high) ∙ seek_append v p x (slots_from b t) (rest v (next v b) (u - 1) 1)
-
-    pub vacant_block : (all : Option ℕ) → all ≡ vacant v (rest v b u t)
-        → all ≡ or_else (vacant v (slots_from b t)) (vacant v (rest v (next v b) (u - 1) 1))
-    vacant_block all e =
-        e ∙ ap (vacant v) (rest_more w.low w.high) ∙ vacant_append v (slots_from b t) (rest v (next v b) (u - 1) 1)
-
     pub searching_block : b < n
     searching_block = each_head (λ x. x < n) b _ _ chain_more w.inside
-
-    pub searching_slots : Each (Readable v) (slots_from b t)
-    searching_slots = each_front (Readable v) (slots_from b t) _ _ (rest_more w.low w.high) w.entries
 
     pub searching_next : Searching n v (next v b) (u - 1) 1
     searching_next =
@@ -236,5 +246,4 @@ module _ (v : Bytes) (b u t : ℕ) (more : 0 < u) where
           low = omega arith;
           high = omega arith;
           inside = each_tail (λ x. x < n) b _ _ chain_more w.inside;
-          entries = each_back (Readable v) (slots_from b t) _ _ (rest_more w.low w.high) w.entries;
         }

@@ -2,6 +2,7 @@
 use mathlib.Core.Path.{◌≡◌, refl, sym, ap, ◌∙◌}
 use mathlib.Core.Bool.{true, false}
 use mathlib.Core.List.{List}
+use mathlib.Core.Logic.{◌⊎◌, ⊎_elim}
 use Prim.Native.Nat.{ℕ, zero, suc, ◌+◌, ◌-◌, ◌*◌, ◌/◌, ◌%◌, ◌≤◌, ◌<◌}
 use lib.ListN.{take, drop}
 use native.Mathlib.Omega.{arith}
@@ -18,6 +19,7 @@ use Rattle.model.proofs.Laws.Keep.{sort_at, field_at}
 use Rattle.model.proofs.ByteLaws.{Agree, agree_part, word_agree, word_from, long_agree, long_from}
 use Rattle.names.proofs.PartLaws.{slot_same, part_run}
 use Rattle.directory.specs.Slots.{place_number, place_of, Counted, kind_of, entry_with, entry_of, slot_says, decoded}
+use Rattle.directory.specs.declared.Slot.{Slot}
 use Rattle.directory.specs.declared.Slot.TheVariants.{Inactive, Improper, Active}
 
 -- where two unlike constructors are equal, cc finds this, and all follows
@@ -94,11 +96,7 @@ module _ (f v : Bytes) (a : ℕ) (lent : Agree 39 f (from v a)) where
   unfolding decoded
   decoded_lent = rw (first_lent, entry_lent)
 
--- The decoder's cases.
-pub decoded_as : (f : Bytes) (t : Sort) → sort_of (f 0 / 16) ≡ t → decoded f ≡ slot_says t (entry_with f 0 (kind_of t (word f 0x11)))
-unfolding decoded entry_of
-decoded_as f t e = rw e
-
+-- The decoder's last case.
 pub sort_improper : (k : ℕ) → 3 < k → (k ≡ 13 → ⊥) → sort_of k ≡ improper
 unfolding sort_of
 sort_improper k h n = rw (ne_eqb k 0 (λ e. omega arith), lt-leb k 3 h, ne_eqb k 13 n, sort_of)
@@ -164,3 +162,14 @@ says_improper inactive e h = never (cc)
 says_improper improper e h = refl
 says_improper directory e h = never (cc)
 says_improper (file k) e h = never (cc)
+
+-- of the decoder's answers that go together
+pub says_none : (t : Sort) (e : Entry) (r : Slot) → (t ≡ improper → ⊥) → r ≡ slot_says t e → (r ≡ Inactive) ⊎ (r ≡ Improper) → is_active t ≡ false
+says_none t e r n h o =
+    ⊎_elim (λ (i : r ≡ Inactive). says_inactive t e (sym h ∙ i)) (λ (i : r ≡ Improper). absurd (n (says_improper t e (sym h ∙ i)))) o
+
+pub says_some : (t : Sort) (e : Entry) (r : Slot) → (t ≡ improper → ⊥) → r ≡ slot_says t e → (r ≡ Improper) ⊎ ((f : Entry) × (r ≡ Active f)) → is_active t ≡ true
+says_some t e r n h o =
+    ⊎_elim (λ (i : r ≡ Improper). absurd (n (says_improper t e (sym h ∙ i))))
+    (λ (i : (f : Entry) × (r ≡ Active f)). (says_active t e i.0 (sym h ∙ i.1)).0)
+    o

@@ -11,11 +11,11 @@ ghost use Rattle.model.specs.Directory.{at, volume, sort, vacant, along};
 ghost use Rattle.model.specs.Calls.{target};
 ghost use Rattle.model.specs.Info.{stamp_at};
 ghost use Rattle.directory.specs.Slots.{place_number, Counted, entry_with, entry_of, slot_says, decoded};
-ghost use Rattle.directory.specs.Search.{Each, Readable, Searchable, slots_from, listed, found_in, vacancy_at};
+ghost use Rattle.directory.specs.Search.{Readable, Searchable, slots_from, listed, LooksAt, FirstAnswer, found_in, vacancy_at};
 ghost use Rattle.directory.specs.Lookup.{Sane, looked_as, inner_of, last_of};
 ghost use Rattle.names.specs.Steps.{parts_left};
 
-use model::{Entry, Found, Kind, Place, Stamp};
+use model::{Entry, Kind, Place, Refusal, Stamp};
 use names::{Cursor, Step};
 
 const BLOCK: usize = 512;
@@ -40,13 +40,6 @@ pub enum Slot {
     Active(Entry),
 }
 
-// Where a new entry can go.
-#[derive(Clone, Copy)]
-pub enum Vacancy {
-    Slot(Place),
-    Full,
-}
-
 // A directory: its own place, and where its chain begins and how long it is.
 #[derive(Clone, Copy)]
 pub struct Home {
@@ -55,24 +48,16 @@ pub struct Home {
     pub used: u16,
 }
 
-// What a path leads to.
+// What a path leads to, where it names the volume and goes through directories.
 #[derive(Clone, Copy)]
 pub enum Looked {
-    NoVolume,
-    NoDirectory,
     Missing(Home),
     There(Home, Place, Entry),
     Volume,
 }
 
-// A directory that was found, or none.
-#[derive(Clone, Copy)]
-enum Inner {
-    Directory(Home),
-    Other,
-}
-
 // Document 01: one match with ranges picks the kind of a data file.
+#[tactic(auto, unfolding(model::specs::Kinds::kind_for))]
 pub fn kind_for(eof: usize, key: u16) -> Kind
     ensures { result ≡ kind_for eof key }
 {
@@ -84,11 +69,11 @@ pub fn kind_for(eof: usize, key: u16) -> Kind
 }
 
 // The height of a data file with this EOF: 0 seedling, 1 sapling, 2 tree.
+#[tactic(auto, using(crate::proofs::KindLaws::kind_least, model::proofs::Laws::Entry::height_most), unfolding(model::specs::File::height_for))]
 pub fn height_for(eof: usize) -> usize
     ensures { (result ≡ height_for eof) × (result ≤ 2) }
 {
-    let kind = kind_for(eof, 0);
-    model::kind_number(kind) as usize - 1
+    u8::from(kind_for(eof, 0)) as usize - 1
 }
 
 fn word_at(slot: &[u8], at: usize) -> u16
@@ -105,6 +90,7 @@ fn long_at(slot: &[u8], at: usize) -> u32
     store::get_long(slot, at) as u32
 }
 
+#[tactic(auto, unfolding(model::specs::Info::stamp_at))]
 fn stamp_at(slot: &[u8], at: usize) -> Stamp
     requires { at + 3 < length slot.now }
     ensures { result ≡ stamp_at (view slot.now) at }
@@ -115,6 +101,7 @@ fn stamp_at(slot: &[u8], at: usize) -> Stamp
     }
 }
 
+#[tactic(auto, unfolding(crate::specs::Slots::entry_with))]
 fn entry_with(slot: &[u8], kind: Kind) -> Entry
     requires { length slot.now ≡ 39 }
     ensures { result ≡ entry_with (view slot.now) 0 kind }
@@ -132,6 +119,7 @@ fn entry_with(slot: &[u8], kind: Kind) -> Entry
 }
 
 // The decoder of one slot.
+#[tactic(auto, using(crate::proofs::SlotLaws::sort_improper), unfolding(crate::specs::Slots::decoded, crate::specs::Slots::entry_of, model::specs::Directory::sort_of))]
 pub fn decode(slot: &[u8]) -> Slot
     requires { length slot.now ≡ 39 }
     ensures { result ≡ decoded (view slot.now) }
@@ -148,167 +136,143 @@ pub fn decode(slot: &[u8]) -> Slot
 }
 
 // The address of a place.
+#[tactic(auto, unfolding(model::specs::Directory::at, model::specs::Directory::place))]
 pub fn slot_at(place: Place) -> usize
     requires { Counted place }
     ensures { result ≡ at (place_number place) }
 {
-    let block = place.block as usize;
-    let slot = place.slot as usize;
-    block * BLOCK + 4 + SLOT_SIZE * (slot - 1)
+    place.block as usize * BLOCK + 4 + SLOT_SIZE * (place.slot as usize - 1)
 }
 
 // What stands at a place.
+#[tactic(auto, using(crate::proofs::SlotLaws::at_place, crate::proofs::SlotLaws::slot_decoded))]
 pub fn entry_at(img: &[u8], place: Place) -> Slot
     requires { (Counted place) × (place.block * 512 + 512 ≤ length img.now) × (place_number place ≡ volume → ⊥) }
     ensures { result ≡ slot_says (sort (view img.now) (place_number place)) (entry_of (view img.now) (at (place_number place))) }
 {
     let start = slot_at(place);
-    let end = start + SLOT_SIZE;
-    decode(&img[start..end])
+    decode(&img[start..start + SLOT_SIZE])
 }
 
 // The entry at a place, where it is active and has the name.
-fn named_at(img: &[u8], place: Place, name: &[u8]) -> Found
+fn named_at(img: &[u8], place: Place, name: &[u8]) -> Option<(Place, Entry)>
     requires { (Counted place) × (place.block * 512 + 512 ≤ length img.now) × Readable (view img.now) (place_number place) }
     ensures { result ≡ found_in (view img.now) name.now (place_number place ∷ []) }
 {
     match entry_at(img, place) {
         Slot::Active(entry) => {
             let start = slot_at(place);
-            let end = start + SLOT_SIZE;
-            if names::same_name(&img[start..end], name) {
-                return Found::At(place, entry);
+            if names::same_name(&img[start..start + SLOT_SIZE], name) {
+                Some((place, entry))
+            } else {
+                None
             }
-            Found::Missing
         }
-        Slot::Inactive => Found::Missing,
-        Slot::Improper => Found::Missing,
+        Slot::Inactive | Slot::Improper => None,
     }
-}
-
-// The first entry with the name among the slots of a block, from `first` on.
-fn find_in_block(img: &[u8], block: usize, first: usize, name: &[u8]) -> Found
-    requires block_bound { (block < 65536) × (block * 512 + 512 ≤ length img.now) × (1 ≤ first) }
-    requires each { Each (Readable (view img.now)) (slots_from block first) }
-    ensures { result ≡ found_in (view img.now) name.now (slots_from block first) }
-{
-    let mut slot = first;
-    while slot <= SLOTS {
-        let place = Place {
-            block: block as u16,
-            slot: slot as u8,
-        };
-        let found = named_at(img, place, name);
-        if let Found::At(_, _) = found {
-            return found;
-        }
-        slot += 1;
-    }
-    Found::Missing
-}
-
-// The first entry with the name in a directory: slot 1 of its key block is the header.
-pub fn find_in(img: &[u8], n: usize, key: usize, used: usize, name: &[u8]) -> Found
-    requires { (n ≤ 65535) × (length img.now ≡ n * 512) × Searchable n (view img.now) key used }
-    ensures { result ≡ found_in (view img.now) name.now (listed (view img.now) key used) }
-{
-    let mut block = key;
-    let mut left = used;
-    let mut first: usize = 2;
-    while 0 < left {
-        let found = find_in_block(img, block, first, name);
-        if let Found::At(_, _) = found {
-            return found;
-        }
-        block = store::get_word(img, block * BLOCK + 2);
-        left -= 1;
-        first = 1;
-    }
-    Found::Missing
 }
 
 // A place, where its slot is inactive.
-fn vacant_at(img: &[u8], place: Place) -> Vacancy
+fn vacant_at(img: &[u8], place: Place) -> Option<Place>
     requires { (Counted place) × (place.block * 512 + 512 ≤ length img.now) × Readable (view img.now) (place_number place) }
     ensures { result ≡ vacancy_at (vacant (view img.now) (place_number place ∷ [])) }
 {
     match entry_at(img, place) {
-        Slot::Inactive => Vacancy::Slot(place),
-        Slot::Improper => Vacancy::Full,
-        Slot::Active(_) => Vacancy::Full,
+        Slot::Inactive => Some(place),
+        Slot::Improper | Slot::Active(_) => None,
     }
 }
 
-// The first inactive slot of a block, from `first` on.
-fn vacant_in_block(img: &[u8], block: usize, first: usize) -> Vacancy
-    requires block_bound { (block < 65536) × (block * 512 + 512 ≤ length img.now) × (1 ≤ first) }
-    requires each { Each (Readable (view img.now)) (slots_from block first) }
-    ensures { result ≡ vacancy_at (vacant (view img.now) (slots_from block first)) }
+// The first answer of `look` at the slots of a block, from `first` on.
+fn first_in_block<T: Copy, F: Fn(Place) -> Option<T>>(
+    block: usize,
+    first: usize,
+    look: &F,
+) -> Option<T>
+    requires block_bound { (block < 65536) × (1 ≤ first) }
+    requires callable { LooksAt (F.pre look.now) (slots_from block first) }
+    ensures { FirstAnswer (F.post look.now) (slots_from block first) result }
 {
-    let mut slot = first;
-    while slot <= SLOTS {
-        let place = Place {
+    for slot in first..=SLOTS {
+        let answer = look(Place {
             block: block as u16,
             slot: slot as u8,
-        };
-        let vacancy = vacant_at(img, place);
-        if let Vacancy::Slot(_) = vacancy {
-            return vacancy;
+        });
+        if answer.is_some() {
+            return answer;
         }
-        slot += 1;
     }
-    Vacancy::Full
+    None
+}
+
+// The first answer of `look` at the slots of a directory: slot 1 of its key block is the header.
+fn first_in<T: Copy, F: Fn(Place) -> Option<T>>(
+    img: &[u8],
+    n: usize,
+    key: usize,
+    used: usize,
+    look: F,
+) -> Option<T>
+    requires bounds { (n ≤ 65535) × (length img.now ≡ n * 512) × Searchable n (view img.now) key used }
+    requires callable { LooksAt (F.pre look) (listed (view img.now) key used) }
+    ensures { FirstAnswer (F.post look) (listed (view img.now) key used) result }
+{
+    let mut block = key;
+    let mut first: usize = 2;
+    for _ in 0..used {
+        let answer = first_in_block(block, first, &look);
+        if answer.is_some() {
+            return answer;
+        }
+        block = store::get_word(img, block * BLOCK + 2);
+        first = 1;
+    }
+    None
+}
+
+// The first entry with the name in a directory.
+pub fn find_in(img: &[u8], n: usize, key: usize, used: usize, name: &[u8]) -> Option<(Place, Entry)>
+    requires { (n ≤ 65535) × (length img.now ≡ n * 512) × Searchable n (view img.now) key used }
+    ensures { result ≡ found_in (view img.now) name.now (listed (view img.now) key used) }
+{
+    first_in(img, n, key, used, |place| named_at(img, place, name))
 }
 
 // The first inactive slot of a directory.
-pub fn vacant_in(img: &[u8], n: usize, key: usize, used: usize) -> Vacancy
+pub fn vacant_in(img: &[u8], n: usize, key: usize, used: usize) -> Option<Place>
     requires { (n ≤ 65535) × (length img.now ≡ n * 512) × Searchable n (view img.now) key used }
     ensures { result ≡ vacancy_at (vacant (view img.now) (listed (view img.now) key used)) }
 {
-    let mut block = key;
-    let mut left = used;
-    let mut first: usize = 2;
-    while 0 < left {
-        let vacancy = vacant_in_block(img, block, first);
-        if let Vacancy::Slot(_) = vacancy {
-            return vacancy;
-        }
-        block = store::get_word(img, block * BLOCK + 2);
-        left -= 1;
-        first = 1;
-    }
-    Vacancy::Full
+    first_in(img, n, key, used, |place| vacant_at(img, place))
 }
 
 // What was found, as the home of what is below it.
-fn inner_of(found: Found) -> Inner
+fn inner_of(found: Option<(Place, Entry)>) -> Option<Home>
     ensures { result ≡ inner_of found }
 {
-    let Found::At(place, entry) = found else {
-        return Inner::Other;
-    };
-    let used = entry.used;
-    let kind = entry.kind;
-    match kind {
-        Kind::Directory(key) => Inner::Directory(Home { place, key, used }),
-        Kind::Seedling(_) => Inner::Other,
-        Kind::Sapling(_) => Inner::Other,
-        Kind::Tree(_) => Inner::Other,
+    let (place, entry) = found?;
+    match entry.kind {
+        Kind::Directory(key) => Some(Home {
+            place,
+            key,
+            used: entry.used,
+        }),
+        Kind::Seedling(_) | Kind::Sapling(_) | Kind::Tree(_) => None,
     }
 }
 
 // What was found for the last name of a path.
-fn last_of(home: Home, found: Found) -> Looked
+fn last_of(home: Home, found: Option<(Place, Entry)>) -> Looked
     ensures { result ≡ last_of home found }
 {
     match found {
-        Found::At(place, entry) => Looked::There(home, place, entry),
-        Found::Missing => Looked::Missing(home),
+        Some((place, entry)) => Looked::There(home, place, entry),
+        None => Looked::Missing(home),
     }
 }
 
 // The names from a cursor on, of which there is one at least, from the volume directory on.
-fn follow(img: &[u8], n: usize, path: &[u8], from: Cursor) -> Looked
+fn follow(img: &[u8], n: usize, path: &[u8], from: Cursor) -> Result<Looked, Refusal>
     requires n_bound { (n ≤ 65535) × (length img.now ≡ n * 512) × Sane n (view img.now) }
     requires at_in_bounds { from.at < length path.now }
     requires at_value { proper_parts (view path.now) (parts_left (view path.now) (length path.now) from.at) ≡ true }
@@ -326,32 +290,25 @@ fn follow(img: &[u8], n: usize, path: &[u8], from: Cursor) -> Looked
     loop {
         match cursor.step(path) {
             Step::Name { start, end, next } => {
-                let key = home.key as usize;
-                let used = home.used as usize;
                 let name = names::name_at(path, start, end);
-                let found = find_in(img, n, key, used, name);
+                let found = find_in(img, n, home.key as usize, home.used as usize, name);
                 if end == path.len() {
-                    return last_of(home, found);
+                    return Ok(last_of(home, found));
                 }
-                let Inner::Directory(inner) = inner_of(found) else {
-                    return Looked::NoDirectory;
+                let Some(inner) = inner_of(found) else {
+                    return Err(Refusal::NoDirectory);
                 };
                 home = inner;
                 cursor = next;
             }
             // A proper path has its names up to its end.
-            Step::End => {
-                return Looked::NoDirectory;
-            }
-            Step::Bad => {
-                return Looked::NoDirectory;
-            }
+            Step::End | Step::Bad => return Err(Refusal::NoDirectory),
         }
     }
 }
 
 // What a proper path leads to.
-pub fn lookup(img: &[u8], n: usize, path: &[u8]) -> Looked
+pub fn lookup(img: &[u8], n: usize, path: &[u8]) -> Result<Looked, Refusal>
     requires n_bound { (n ≤ 65535) × (length img.now ≡ n * 512) × Sane n (view img.now) }
     requires path_value { proper_path (view path.now) (length path.now) ≡ true }
     ensures { result ≡ looked_as (view img.now) (target (view img.now) (view path.now) (length path.now)) }
@@ -360,15 +317,14 @@ pub fn lookup(img: &[u8], n: usize, path: &[u8]) -> Looked
         Step::Name { start, end, next } => {
             let name = names::name_at(path, start, end);
             if !names::same_name(&img[VOLUME_HEADER..VOLUME_HEADER + SLOT_SIZE], name) {
-                return Looked::NoVolume;
+                return Err(Refusal::NoVolume);
             }
             if end == path.len() {
-                return Looked::Volume;
+                return Ok(Looked::Volume);
             }
             follow(img, n, path, next)
         }
         // A proper path begins with a name.
-        Step::End => Looked::NoVolume,
-        Step::Bad => Looked::NoVolume,
+        Step::End | Step::Bad => Err(Refusal::NoVolume),
     }
 }

@@ -1,10 +1,11 @@
 -- What the writers store, as the definitions have it; a slot lent from an image and given back; a name lent as a part. Assumes nothing.
 use mathlib.Core.Path.{◌≡◌, refl, sym, ap, ◌∙◌, fun_ext}
 use mathlib.Core.List.{List, ◌++◌}
-use Prim.Native.Nat.{ℕ, ◌+◌, ◌-◌, ◌*◌, ◌/◌, ◌%◌, ◌≤◌, ◌<◌}
+use Prim.Native.Nat.{ℕ, ◌+◌, ◌-◌, ◌*◌, ◌≤◌, ◌<◌}
+use lib.Bits.{bit_or, or_add_and}
 use lib.ListN.{length, take, drop, get_or-eq_default}
 use native.Mathlib.Omega.{arith}
-use borrow.Author.Tests.{ne_eqb}
+use Rattle.std.proofs.lemmas.Nat.Bits.{and_pow}
 use Rattle.model.specs.Bytes.{Bytes, view, put, paste, from, zeros, clear, digit, put_word}
 use Rattle.model.specs.Names.{Part, part, capital, capitals}
 use Rattle.model.specs.Calls.{stamp_bytes, put_stamp, name_field, put_name, backed_up}
@@ -14,16 +15,11 @@ use Rattle.model.specs.declared.Stamp.{Stamp}
 use Rattle.model.proofs.ByteLaws.{in_or_out, paste_in, paste_at, paste_out, paste_by, paste_cong, paste_put, paste_paste, clear_in, clear_out, view_part}
 use Rattle.model.proofs.Laws.Fresh.{name_rest}
 use Rattle.names.proofs.PartLaws.{SameRun}
-use Rattle.entries.specs.Fields.{first_eof}
 
 -- the backup bit is set, or is added
-pub backed_is : (x : ℕ) → x / 32 % 2 ≡ 1 → x ≡ backed_up x
+pub backed_or : (x : ℕ) → bit_or x 32 ≡ backed_up x
 unfolding backed_up
-backed_is x e = rw e (omega arith)
-
-pub backed_more : (x : ℕ) → (x / 32 % 2 ≡ 1 → ⊥) → x + 32 ≡ backed_up x
-unfolding backed_up
-backed_more x e = let z : x / 32 % 2 ≡ 0 = omega arith in rw z (omega arith)
+backed_or x = omega (arith, or_add_and x 32, and_pow x 5)
 
 -- two runs, one behind the other
 two_runs : (f : Bytes) (a : ℕ) (g h : Bytes) → paste (paste f a 2 g) (a + 2) 2 h ≡ paste f a 4 (paste g 2 2 h)
@@ -81,15 +77,6 @@ slot_named kind p x l =
     (paste_by (name_field kind p x) zeros 0 16 (name_field kind p x)
     (λ i h. let e : 0 + i ≡ i = omega arith in ap (name_field kind p x) e)
     (λ i o. name_rest kind p x i l (omega (arith, o (omega arith)))))
-
--- the EOF of a new file
-pub eof_directory : (k : ℕ) → k ≡ 13 → 512 ≡ first_eof k
-unfolding first_eof
-eof_directory k e = rw e refl
-
-pub eof_file : (k : ℕ) → (k ≡ 13 → ⊥) → 0 ≡ first_eof k
-unfolding first_eof
-eof_file k n = rw (ne_eqb k 13 n, first_eof) refl
 
 -- The 39 bytes from a on, lent, written and given back: nothing else of the image has changed.
 pub slot_back : (xs ys : List ℕ) (a k : ℕ) (g : Bytes) → k ≡ 39 → a + 39 ≤ length xs → length ys ≡ k → view ys ≡ g

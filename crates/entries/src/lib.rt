@@ -29,50 +29,47 @@ const DIRECTORY: usize = 0xD;
 const ACCESS: u8 = 0xE3;
 
 // An access with the backup bit set.
+#[tactic(auto, using(crate::proofs::Laws::backed_or))]
 pub fn backed_up(access: u8) -> u8
     ensures { result ≡ backed_up access }
 {
-    if access / 0x20 % 2 == 1 {
-        return access;
-    }
-    access + 0x20
+    access | 0x20
 }
 
 // A stamp, date before time.
+#[tactic(auto, using(crate::proofs::Laws::stamp_stored))]
 pub fn put_stamp(img: &mut [u8], at: usize, stamp: Stamp)
     requires { at + 4 ≤ length img.old }
     ensures { view img.new ≡ put_stamp (view img.old) at stamp }
 {
-    let date = stamp.date as usize;
-    let time = stamp.time as usize;
-    store::put_word(img, at, date);
-    store::put_word(img, at + 2, time);
+    store::put_word(img, at, usize::from(stamp.date));
+    store::put_word(img, at + 2, usize::from(stamp.time));
 }
 
 // The capitals of a name, from `to` on.
+#[tactic(auto, using(model::proofs::ByteLaws::paste_none, store::proofs::Runs::byte_pasted))]
 fn put_capitals(dst: &mut [u8], to: usize, name: &[u8])
     requires { to + length name.now ≤ length dst.old }
     ensures { view dst.new ≡ paste (view dst.old) to (length name.now) (capitals (view name.now)) }
 {
-    let mut stored: usize = 0;
-    while stored < name.len() {
-        dst[to + stored] = names::capital_of(name[stored]);
-        stored += 1;
+    for (i, byte) in name.iter().enumerate() {
+        dst[to + i] = names::capital_of(*byte);
     }
 }
 
 // A name as it is stored: kind and length, the capitals, spare bytes 0.
+#[tactic(auto, using(crate::proofs::Laws::name_stored))]
 pub fn put_name(img: &mut [u8], at: usize, kind: usize, name: &[u8])
     requires { (at + 16 ≤ length img.old) × (length name.now ≤ 15) × (kind < 16) }
     ensures { view img.new ≡ put_name (view img.old) at kind (view name.now) (part 0 (length name.now)) }
 {
-    let first = (kind * 16 + name.len()) as u8;
     store::clear_run(img, at, NAME_FIELD);
     put_capitals(img, at + 1, name);
-    store::put_byte(img, at, first);
+    store::put_byte(img, at, (kind * 16 + name.len()) as u8);
 }
 
 // A slot that has a name and nothing else.
+#[tactic(auto, using(crate::proofs::Laws::slot_cleared, crate::proofs::Laws::slot_named))]
 fn write_name(slot: &mut [u8], kind: usize, name: &[u8])
     requires { (length slot.old ≡ 39) × (length name.now ≤ 15) × (kind < 16) }
     ensures { view slot.new ≡ name_field kind (view name.now) (part 0 (length name.now)) }
@@ -82,6 +79,7 @@ fn write_name(slot: &mut [u8], kind: usize, name: &[u8])
 }
 
 // A header with no active entry.
+#[tactic(auto, unfolding(model::specs::Format::header_bytes))]
 pub fn write_header(slot: &mut [u8], kind: usize, name: &[u8], stamp: Stamp, access: u8)
     requires { (length slot.old ≡ 39) × (length name.now ≤ 15) × (kind < 16) }
     ensures { view slot.new ≡ header_bytes kind (view name.now) (part 0 (length name.now)) stamp access }
@@ -94,6 +92,7 @@ pub fn write_header(slot: &mut [u8], kind: usize, name: &[u8], stamp: Stamp, acc
 }
 
 // The header of a subdirectory whose entry stands in slot `number` of a block.
+#[tactic(auto, unfolding(model::specs::Create::subdirectory_header, model::specs::Directory::place))]
 pub fn write_subdirectory_header(
     slot: &mut [u8],
     name: &[u8],
@@ -112,6 +111,7 @@ pub fn write_subdirectory_header(
 }
 
 // The header of a volume of n blocks.
+#[tactic(auto, unfolding(model::specs::Format::volume_header))]
 pub fn write_volume_header(slot: &mut [u8], n: usize, name: &[u8], stamp: Stamp)
     requires { (length slot.old ≡ 39) × (length name.now ≤ 15) }
     ensures { view slot.new ≡ volume_header n (view name.now) (part 0 (length name.now)) stamp }
@@ -122,13 +122,11 @@ pub fn write_volume_header(slot: &mut [u8], n: usize, name: &[u8], stamp: Stamp)
 }
 
 // The EOF of a file of one block: a directory is its block, a data file is empty.
+#[tactic(auto, unfolding(crate::specs::Fields::first_eof))]
 fn first_eof(kind: usize) -> usize
     ensures { result ≡ first_eof kind }
 {
-    if kind == DIRECTORY {
-        return 512;
-    }
-    0
+    if kind == DIRECTORY { 512 } else { 0 }
 }
 
 // The entry's bytes before the stamp: name, type, key, one block used, EOF.
@@ -144,6 +142,8 @@ fn write_front(slot: &mut [u8], name: &[u8], kind: usize, ftype: u8, key: usize)
 }
 
 // A new entry with its key block, in the directory that begins at `home`.
+// Eight parameters: the contract names the fields one by one, and the struct that asks for a file is of a crate above.
+#[tactic(auto, unfolding(model::specs::Create::entry_bytes, crate::specs::Fields::first_eof))]
 pub fn write_entry(
     slot: &mut [u8],
     name: &[u8],
@@ -160,7 +160,7 @@ pub fn write_entry(
     write_front(slot, name, kind, ftype, key);
     put_stamp(slot, 0x18, stamp);
     store::put_byte(slot, 0x1E, ACCESS);
-    store::put_word(slot, 0x1F, aux as usize);
+    store::put_word(slot, 0x1F, usize::from(aux));
     put_stamp(slot, 0x21, stamp);
     store::put_word(slot, 0x25, home);
 }

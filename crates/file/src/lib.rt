@@ -9,6 +9,7 @@ ghost use Rattle.facts.specs.Reached.{Deep};
 ghost use Rattle.file.specs.Runs.{run_in};
 
 // The data block of file block p below an index, 0 for a hole.
+#[tactic(auto, using(crate::proofs::Laws::in_index, crate::proofs::Laws::index_inside))]
 fn block_in_index(img: &[u8], n: usize, key: usize, p: usize) -> usize
     requires { (n ≤ 65535) × (length img.now ≡ n * 512) × Deep n (view img.now) 1 key }
     ensures { (result ≡ data_block (view img.now) 1 key p) × (result < n) }
@@ -17,18 +18,21 @@ fn block_in_index(img: &[u8], n: usize, key: usize, p: usize) -> usize
 }
 
 // The data block of file block p below a master index, 0 for a hole.
+#[tactic(auto, using(crate::proofs::Laws::master_hole, crate::proofs::Laws::in_master))]
 fn block_in_master(img: &[u8], n: usize, key: usize, p: usize) -> usize
     requires { (n ≤ 65535) × (length img.now ≡ n * 512) × Deep n (view img.now) 2 key }
     ensures { (result ≡ data_block (view img.now) 2 key p) × (result < n) }
 {
     let index = store::get_pointer(img, key, p / 256 % 256);
     if index == 0 {
-        return 0;
+        0
+    } else {
+        block_in_index(img, n, index, p)
     }
-    block_in_index(img, n, index, p)
 }
 
 // The data block of file block p, 0 for a hole.
+#[tactic(auto, unfolding(model::specs::File::data_block))]
 pub fn data_block(img: &[u8], n: usize, height: usize, key: usize, p: usize) -> usize
     requires { (n ≤ 65535) × (length img.now ≡ n * 512) × (height < 3) × Deep n (view img.now) height key }
     ensures { (result ≡ data_block (view img.now) height key p) × (result < n) }
@@ -41,26 +45,27 @@ pub fn data_block(img: &[u8], n: usize, height: usize, key: usize, p: usize) -> 
 }
 
 // A run of bytes inside one block, which is a hole where the block is 0, to a place of the buffer.
+#[tactic(auto, using(crate::proofs::Laws::hole_run, crate::proofs::Laws::block_run))]
 fn read_run(buffer: &mut [u8], to: usize, img: &[u8], block: usize, offset: usize, k: usize)
     requires { (to + k ≤ length buffer.old) × (offset + k ≤ 512) × (block * 512 + 512 ≤ length img.now) }
     ensures { view buffer.new ≡ paste (view buffer.old) to k (run_in (view img.now) block offset) }
 {
     if block == 0 {
         store::clear_run(buffer, to, k);
-        return;
+    } else {
+        store::copy_run(buffer, to, img, block * 512 + offset, k);
     }
-    store::copy_run(buffer, to, img, block * 512 + offset, k);
 }
 
 // How many of the bytes that are left lie in the block of a position.
 fn run_length(position: usize, left: usize) -> usize
     ensures { (result ≤ left) × (position % 512 + result ≤ 512) × (0 < left → 0 < result) }
 {
-    let room = 512 - position % 512;
-    if left < room { left } else { room }
+    left.min(512 - position % 512)
 }
 
 // The next count bytes of a file from a position on, to the front of the buffer.
+#[tactic(auto, using(model::proofs::ByteLaws::paste_none, crate::proofs::Laws::run_on))]
 pub fn read_bytes(
     img: &[u8],
     n: usize,
@@ -74,7 +79,8 @@ pub fn read_bytes(
     requires count_in_bounds { (count ≤ length buffer.old) × (position + count ≤ 4294967295) }
     ensures { view buffer.new ≡ paste (view buffer.old) 0 count (from (file_byte (view img.now) height key) position) }
 {
-    let mut done: usize = 0;
+    // A `while`: the step is what is left of a block.
+    let mut done = 0;
     while done < count {
         let at = position + done;
         let block = data_block(img, n, height, key, at / 512);

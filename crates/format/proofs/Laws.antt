@@ -1,8 +1,9 @@
 -- Sizes of an image, the bytes of a fresh map, and what format answers. Assumes nothing.
+use Rattle.std.specs.Prelude.{Ok, Err}
 use mathlib.Core.Path.{◌≡◌, refl, sym, ap, ◌∙◌}
 use mathlib.Core.Bool.{Bool, true, false, not}
 use mathlib.Core.List.{List, [], ◌∷◌}
-use Prim.Native.Nat.{ℕ, zero, suc, ◌+◌, ◌*◌, ◌/◌, ◌%◌, ◌^◌, ◌≤◌, ◌<◌}
+use Prim.Native.Nat.{ℕ, suc, ◌+◌, ◌*◌, ◌/◌, ◌%◌, ◌^◌, ◌≤◌, ◌<◌}
 use lib.ListN.{length}
 use lib.Dec.{leb, ltb, eqb}
 use native.Mathlib.Omega.{arith}
@@ -16,9 +17,9 @@ use Rattle.model.specs.Format.{format_number, formatted, format}
 use Rattle.model.specs.Answers.{Does}
 use Rattle.model.specs.declared.Stamp.{Stamp}
 use Rattle.model.specs.declared.Refusal.TheVariants.{NotProdos, BadPath}
-use Rattle.model.specs.declared.Answer.TheVariants as answer
 use Rattle.model.proofs.RefusalLaws.{first_applies, first_passes}
 use Rattle.model.proofs.BitLaws.{fresh_yes, fresh_no}
+use Rattle.map.proofs.Laws.{shifted}
 use Rattle.names.proofs.Laws.{and_left, and_right, within_true}
 use Rattle.entries.proofs.DoesLaws.{does_refused, does_done}
 
@@ -49,19 +50,6 @@ module _ (len : ℕ) where
       let w = within_true 16 65535 (len / 512) (and_right _ _ e) in
       (eqb-true (len % 512) 0 (and_left _ _ e), w.0, w.1)
 
--- what bit i counts
-pub bit_weight : (i : ℕ) → i < 8 → (128 / 2 ^ i ≡ weight i) × (128 / 2 ^ i ≤ 128)
-unfolding weight
-bit_weight zero l = (refl, omega arith)
-bit_weight (suc zero) l = (refl, omega arith)
-bit_weight (suc (suc zero)) l = (refl, omega arith)
-bit_weight (suc (suc (suc zero))) l = (refl, omega arith)
-bit_weight (suc (suc (suc (suc zero)))) l = (refl, omega arith)
-bit_weight (suc (suc (suc (suc (suc zero))))) l = (refl, omega arith)
-bit_weight (suc (suc (suc (suc (suc (suc zero)))))) l = (refl, omega arith)
-bit_weight (suc (suc (suc (suc (suc (suc (suc zero))))))) l = (refl, omega arith)
-bit_weight (suc (suc (suc (suc (suc (suc (suc (suc i)))))))) l = absurd (omega arith)
-
 -- a block that is not free, and one that is
 module _ (a n b i : ℕ) where
   abbrev counted : ℕ → Type 0
@@ -72,9 +60,9 @@ module _ (a n b i : ℕ) where
 
   pub bit_one : i < 8 → a ≤ b → b < n → counted (128 / 2 ^ i)
   bit_one l h m =
-      let w = bit_weight i l in
+      let w = shifted i l in
       let e : weight i ≡ 1 * weight i = omega arith in
-      rw (fresh_yes a n b h m) (w.0 ∙ e, w.1)
+      rw (fresh_yes a n b h m, w.0) (e, w.1)
 
 -- a map byte, bit by bit, and whole
 pub fresh_none : (a n b : ℕ) → 0 ≡ fresh_bits a n b 0
@@ -108,18 +96,18 @@ module _ (l : List ℕ) (q : Bytes) (j : ℕ) (t : Stamp) where
   abbrev name_row : Row
   name_row = row (not (proper_name q 0 j)) 0x40
 
-  pub format_size : whole_blocks (length l) ≡ false → Does (format (length l) (view l) q j t) (length l) (answer.Refused NotProdos) l
+  pub format_size : whole_blocks (length l) ≡ false → Does (format (length l) (view l) q j t) (length l) (Err NotProdos) l
   unfolding format format_number
   format_size e = does_refused _ l _ NotProdos (first_applies size_row (name_row ∷ []) (ap not e))
 
   pub format_name : whole_blocks (length l) ≡ true → proper_name q 0 j ≡ false
-      → Does (format (length l) (view l) q j t) (length l) (answer.Refused BadPath) l
+      → Does (format (length l) (view l) q j t) (length l) (Err BadPath) l
   unfolding format format_number
   format_name e f =
       does_refused _ l _ BadPath (first_passes size_row (name_row ∷ []) (ap not e) ∙ first_applies name_row [] (ap not f))
 
   pub format_done : (l' : List ℕ) → whole_blocks (length l) ≡ true → proper_name q 0 j ≡ true → length l' ≡ length l
-      → view l' ≡ formatted (length l / 512) q j t → Does (format (length l) (view l) q j t) (length l) answer.Done l'
+      → view l' ≡ formatted (length l / 512) q j t → Does (format (length l) (view l) q j t) (length l) (Ok tt) l'
   unfolding format format_number first
   format_done l' e f m w =
       does_done _ (length l) (view l) _ l' (first_passes size_row (name_row ∷ []) (ap not e) ∙ first_passes name_row [] (ap not f)) m w

@@ -1,16 +1,14 @@
 -- Growing step by step: what each step keeps, and the entry's blocks used.
-use Prim.Native.Nat.{ℕ, zero, suc, ◌+◌, ◌-◌, ◌*◌, ◌≤◌, ◌<◌, ◌/◌, ◌%◌}
-use mathlib.Core.Path.{◌≡◌, refl, sym, ap, ◌∙◌}
-use mathlib.Core.Bool.{Bool, true, false, not}
-use lib.Dec.{ltb, eqb}
+use Prim.Native.Nat.{ℕ, zero, suc, ◌+◌, ◌-◌, ◌*◌, ◌≤◌, ◌<◌}
+use mathlib.Core.Path.{◌≡◌, refl, sym}
 use lib.ListN.{length}
 use native.Mathlib.Omega.{arith}
 use native.Mathlib.Numerals.{add-one}
-use borrow.Author.Tests.{eq-eqb, ne_eqb, lt-ltb, le-ltb}
-use Rattle.model.specs.Bytes.{Bytes, clear}
+use borrow.Author.Tests.{le-ltb}
+use Rattle.model.specs.Bytes.{Bytes}
 use Rattle.model.specs.Map.{map_blocks, map_at, room, lowest, first_free}
 use Rattle.model.specs.Directory.{map_place, at, sort, key, eof}
-use Rattle.model.specs.File.{height_for, height, span, data_block, nodes}
+use Rattle.model.specs.File.{height_for, height, nodes}
 use Rattle.model.specs.Grow.{zeroed_from, topped, raised, raised_key}
 use Rattle.model.specs.Write.{noted, grown, grown_key}
 use Rattle.model.specs.declared.Stamp.{Stamp}
@@ -39,47 +37,6 @@ first_lowest w n = sym (lowest_from map_place w n 0 (omega arith) (λ c l. absur
 pub fit_deep : {n : ℕ} {w : Bytes} (h : ℕ) {q k : ℕ} → Fit n w h q k → Deep n w h k
 fit_deep zero F = fit_key F
 fit_deep (suc h) F = (fit_key F, λ i l z. fit_deep h (fit_below F l z))
-
--- The end of a file.
-pub full_none : (e : ℕ) → e ≡ 0 → false ≡ not (ltb e (span e * 512))
-unfolding span
-full_none e z = rw (lt-ltb e (span e * 512) (omega arith)) refl
-
-pub full_is : (e : ℕ) → (e ≡ 0 → ⊥) → eqb (e % 512) 0 ≡ not (ltb e (span e * 512))
-full_is e z = go (e % 512) refl
-  where
-    go : (r : ℕ) → e % 512 ≡ r → eqb r 0 ≡ not (ltb e (span e * 512))
-    go zero q = rw (le-ltb e (span e * 512) (unfold span in omega arith)) refl
-    go (suc r) q = rw (lt-ltb e (span e * 512) (unfold span in omega arith)) (ne_eqb (suc r) 0 (λ z. omega arith))
-
-module _ (v : Bytes) (h k e : ℕ) where
-  pub tail_full : true ≡ not (ltb e (span e * 512)) → v ≡ zeroed_from v h k e
-  unfolding zeroed_from
-  tail_full t = go (ltb e (span e * 512)) refl t
-    where
-      go : (b : Bool) → ltb e (span e * 512) ≡ b → true ≡ not b → v ≡ zeroed_from v h k e
-      go false q u = rw (q, zeroed_from) refl
-      go true q u = let z : ◌≡◌ {A = ℕ} 0 1 = cc in absurd (omega arith)
-
-  tail_on : (c : Bool) → eqb (data_block v h k (e / 512)) 0 ≡ c → false ≡ not (ltb e (span e * 512))
-      → zeroed_from v h k e
-      ≡ elim c [ true ↦ v | false ↦ clear v (data_block v h k (e / 512) * 512 + e % 512) (512 - e % 512) ]
-  unfolding zeroed_from
-  tail_on c q t = go (ltb e (span e * 512)) refl t
-    where
-      go : (b : Bool) → ltb e (span e * 512) ≡ b → false ≡ not b
-          → zeroed_from v h k e
-          ≡ elim c [ true ↦ v | false ↦ clear v (data_block v h k (e / 512) * 512 + e % 512) (512 - e % 512) ]
-      go true q' y = rw (q', q, zeroed_from) refl
-      go false q' y = let z : ◌≡◌ {A = ℕ} 0 1 = cc in absurd (omega arith)
-
-  pub tail_hole : (b : ℕ) → b ≡ data_block v h k (e / 512) → b ≡ 0 → false ≡ not (ltb e (span e * 512)) → v ≡ zeroed_from v h k e
-  tail_hole b d z t = sym (tail_on true (eq-eqb _ 0 (sym d ∙ z)) t)
-
-  pub tail_there : (b : ℕ) → b ≡ data_block v h k (e / 512) → (b ≡ 0 → ⊥) → false ≡ not (ltb e (span e * 512))
-      → clear v (b * 512 + e % 512) (512 - e % 512) ≡ zeroed_from v h k e
-  tail_there b d z t =
-      ap (λ x. clear v (x * 512 + e % 512) (512 - e % 512)) d ∙ sym (tail_on false (ne_eqb _ 0 (λ y. z (d ∙ y))) t)
 
 -- New keys.
 module _ (n tall goal k : ℕ) (w : Bytes) where
@@ -146,14 +103,6 @@ module _ {n : ℕ} {v : Bytes} {h k : ℕ} (F : Fit n v h 0 k) (o e : ℕ) (tall
   pub key_same : e ≤ o → k ≡ grown_key_from map_place n v h k o e
   unfolding grown_key_from
   key_same l = rw (le-ltb o e l, grown_key_from) (sym (key_none n h (height_for e) k v (rw tall (height_le e o l))))
-
-pub grown_more : (n : ℕ) (v : Bytes) (h k o e : ℕ) → o < e → raised map_place n (zeroed_from v h k o) k (height_for e - h) ≡ grown_from map_place n v h k o e
-unfolding grown_from
-grown_more n v h k o e l = rw (lt-ltb o e l, grown_from) refl
-
-pub key_more : (n : ℕ) (v : Bytes) (h k o e : ℕ) → o < e → raised_key map_place n (zeroed_from v h k o) k (height_for e - h) ≡ grown_key_from map_place n v h k o e
-unfolding grown_key_from
-key_more n v h k o e l = rw (lt-ltb o e l, grown_key_from) refl
 
 -- by the entry at s
 pub grown_at : (m n : ℕ) (v : Bytes) (s e : ℕ) → grown_from m n v (height (sort v s)) (key v s) (eof v s) e ≡ grown m n v s e

@@ -18,6 +18,7 @@ use model::Stamp;
 const MAP_BLOCK: usize = 6;
 
 // Pointer i of an index block becomes p.
+#[tactic(auto, unfolding(model::specs::File::put_pointer))]
 pub fn put_pointer(img: &mut [u8], block: usize, i: usize, p: usize)
     requires { (i < 256) × (block * 512 + 512 ≤ length img.old) }
     ensures { view img.new ≡ put_pointer (view img.old) block i p }
@@ -27,17 +28,16 @@ pub fn put_pointer(img: &mut [u8], block: usize, i: usize, p: usize)
 }
 
 // Whether a file's last block is full: no block has bytes at EOF and after.
+#[tactic(auto, unfolding(model::specs::File::span))]
 fn ends_full(eof: usize) -> bool
     requires { eof < 16777216 }
     ensures { result ≡ not (ltb eof (span eof * 512)) }
 {
-    if eof == 0 {
-        return false;
-    }
-    eof % 512 == 0
+    eof != 0 && eof % 512 == 0
 }
 
 // Every byte the file owns at EOF and after becomes 0.
+#[tactic(auto, unfolding(model::specs::Grow::zeroed_from))]
 pub fn zero_tail(img: &mut [u8], n: usize, height: usize, key: usize, eof: usize)
     requires { (n ≤ 65535) × (length img.old ≡ n * 512) × (height < 3) × (eof < 16777216) × Deep n (view img.old) height key }
     ensures { view img.new ≡ zeroed_from (view img.old) height key eof }
@@ -54,6 +54,7 @@ pub fn zero_tail(img: &mut [u8], n: usize, height: usize, key: usize, eof: usize
 }
 
 // A new key block over a key: the lowest free block, with the old key as its pointer 0.
+#[tactic(auto, using(crate::proofs::Laws::map_fits, crate::proofs::Laws::first_lowest))]
 fn top(img: &mut [u8], n: usize, key: usize) -> usize
     requires { (16 ≤ n) × (n ≤ 65535) × (length img.old ≡ n * 512) × (lowest map_place (view img.old) n < n) }
     ensures value { result ≡ lowest map_place (view img.old) n }
@@ -72,15 +73,14 @@ pub fn raise(img: &mut [u8], n: usize, height: usize, goal: usize, key: usize) -
     ensures value { result ≡ raised_key map_place n (view img.old) key (goal - height) }
 {
     let mut above = key;
-    let mut tall = height;
-    while tall < goal {
+    for _ in height..goal {
         above = top(img, n, above);
-        tall += 1;
     }
     above
 }
 
 // EOF grows to an end: the bytes at EOF and after are zeroed, then new keys are taken. Gives the key.
+#[tactic(auto, unfolding(crate::specs::Growth::grown_from, crate::specs::Growth::grown_key_from))]
 pub fn grow(img: &mut [u8], n: usize, height: usize, key: usize, eof: usize, end: usize) -> usize
     requires img_len { (length img.old ≡ n * 512) × (height ≡ height_for eof) × (eof < 16777216) × Fit n (view img.old) height 0 key }
     requires height_bound { height_for end - height ≤ room map_place (view img.old) n }
@@ -124,6 +124,8 @@ fn note_change(img: &mut [u8], at: usize, access: u8, stamp: Stamp)
 }
 
 // The entry at an address, written anew. The file's blocks and the free ones were so many together: what is not free now is used.
+// Eight parameters: a caller has each from a step of its own, so a struct would be filled at the call only to be taken apart here.
+#[tactic(auto, using(crate::proofs::Laws::map_fits), unfolding(crate::specs::Growth::noted_as))]
 pub fn note(
     img: &mut [u8],
     n: usize,

@@ -1,4 +1,6 @@
 -- A path that was opened leads to an entry of a sound volume; a data file there is fit for every call on it. Assumes nothing.
+use Rattle.std.specs.Prelude.{Result, Ok}
+use Rattle.model.specs.declared.Refusal.{Refusal}
 use Prim.Native.Nat.{ℕ, ◌+◌, ◌*◌, ◌≤◌, ◌<◌, ◌/◌}
 use mathlib.Core.Path.{◌≡◌, refl, sym, ap, ◌∙◌}
 use mathlib.Core.Bool.{true, false}
@@ -76,19 +78,19 @@ module _ (n : ℕ) (v p : Bytes) (k d s : ℕ) (octets : Octets v) (sane : sound
 
 -- What a path leads to.
 module _ (len : ℕ) (v p : Bytes) (k : ℕ) where
-  pub opened_volume : (n : ℕ) → opened_by len v p k ≡ opened.Volume n → spot (target v p k) ≡ volume
+  pub opened_volume : (n : ℕ) → opened_by len v p k ≡ Ok (opened.Volume n) → spot (target v p k) ≡ volume
   opened_volume n q = go (opened_by len v p k) refl q (seen len v p k)
     where
-      go : (o : Opened) → opened_by len v p k ≡ o → o ≡ opened.Volume n → Seen len v p k o → spot (target v p k) ≡ volume
+      go : (o : Result Opened Refusal) → opened_by len v p k ≡ o → o ≡ Ok (opened.Volume n) → Seen len v p k o → spot (target v p k) ≡ volume
       go o q z (refused r y) = let w : ◌≡◌ {A = ℕ} 0 1 = cc in absurd (omega arith)
       go o q z (on_volume d f y) = unfold spot in ap spot y
       go o q z (on_entry d y f g off) = let w : ◌≡◌ {A = ℕ} 0 1 = cc in absurd (omega arith)
 
-  pub opened_entry : (n : ℕ) (h : Home) (s : Place) (x : Entry) → Octets v → opened_by len v p k ≡ opened.Entry n h s x
+  pub opened_entry : (n : ℕ) (h : Home) (s : Place) (x : Entry) → Octets v → opened_by len v p k ≡ Ok (opened.Entry n h s x)
       → Fits len v n × (spot (target v p k) ≡ place_number s) × Told n v s x
   opened_entry n h s x octets q = go (opened_by len v p k) refl q (seen len v p k)
     where
-      go : (o : Opened) → opened_by len v p k ≡ o → o ≡ opened.Entry n h s x → Seen len v p k o
+      go : (o : Result Opened Refusal) → opened_by len v p k ≡ o → o ≡ Ok (opened.Entry n h s x) → Seen len v p k o
           → Fits len v n × (spot (target v p k) ≡ place_number s) × Told n v s x
       go o q z (refused r y) = let w : ◌≡◌ {A = ℕ} 0 1 = cc in absurd (omega arith)
       go o q z (on_volume d f y) = let w : ◌≡◌ {A = ℕ} 0 1 = cc in absurd (omega arith)

@@ -1,4 +1,5 @@
 -- What space and get info answer, by what the image and the path are.
+use Rattle.std.specs.Prelude.{Result, Ok, Err}
 use Prim.Native.Nat.{ℕ, ◌+◌, ◌-◌, ◌/◌}
 use mathlib.Core.Path.{◌≡◌, refl, sym, ap, ◌∙◌}
 use mathlib.Core.List.{[]}
@@ -19,11 +20,8 @@ use Rattle.model.specs.declared.Info.{Info}
 use Rattle.model.specs.declared.Entry.{Entry}
 use Rattle.model.specs.declared.Place.{Place}
 use Rattle.model.specs.declared.Refusal.{Refusal}
-use Rattle.model.specs.declared.SpaceAnswer.TheVariants as spacing
-use Rattle.model.specs.declared.InfoAnswer.TheVariants as information
 use Rattle.model.proofs.RefusalLaws.{settle_refused, settle_accepted, number_refuses}
 use Rattle.opening.specs.Opened.{volume_in, opened_by}
-use Rattle.opening.specs.declared.Volume.TheVariants as volumes
 use Rattle.opening.specs.declared.Opened.{Opened}
 use Rattle.opening.specs.declared.Opened.TheVariants as opened
 use Rattle.opening.proofs.VolumeLaws.{volume_or, volume_first, Fits, volume_sound}
@@ -36,13 +34,13 @@ refused_tells : {P : Type 0} (k : ℕ) (none : P) (v : Bytes) (some : P) (r : Re
 unfolding settle
 refused_tells k none v some r e = (settle_refused k none v some v (λ z. number_refuses r (sym e ∙ z))).0
 
-pub space_refused : (len : ℕ) (v : Bytes) (r : Refusal) → volume_in len v ≡ volumes.Refused r → Measures (space len v) (spacing.Refused r)
+pub space_refused : (len : ℕ) (v : Bytes) (r : Refusal) → volume_in len v ≡ Err r → Measures (space len v) (Err r)
 unfolding space space_number first settle
 space_refused len v r e =
     let q : space_number len v ≡ refusal_number r = volume_first len v [] ∙ ap (λ o. volume_or o 0) e in
     record { said = sym q; told = sym (refused_tells (space_number len v) no_space v _ r q) }
 
-pub space_told_law : (len : ℕ) (v : Bytes) (n : ℕ) → volume_in len v ≡ volumes.Sound n → Measures (space len v) (spacing.Blocks n (room map_place v n))
+pub space_told_law : (len : ℕ) (v : Bytes) (n : ℕ) → volume_in len v ≡ Ok n → Measures (space len v) (Ok (record { total = n; free = room map_place v n }))
 unfolding space space_number first settle
 space_told_law len v n e =
     let q : space_number len v ≡ 0 = volume_first len v [] ∙ ap (λ o. volume_or o 0) e in
@@ -57,15 +55,15 @@ info_number_law : (len : ℕ) (v p : Bytes) (k : ℕ) → get_info_number len v 
 unfolding get_info_number first
 info_number_law len v p k = opened_first len v p k []
 
-pub info_refused : (len : ℕ) (v p : Bytes) (k : ℕ) (r : Refusal) → opened_by len v p k ≡ opened.Refused r → Tells (get_info len v p k) (information.Refused r)
+pub info_refused : (len : ℕ) (v p : Bytes) (k : ℕ) (r : Refusal) → opened_by len v p k ≡ Err r → Tells (get_info len v p k) (Err r)
 unfolding get_info settle
 info_refused len v p k r e =
     let q : get_info_number len v p k (target v p k) ≡ refusal_number r = info_number_law len v p k ∙ ap (λ o. opened_or o 0) e in
     record { said = sym q; told = sym (refused_tells (get_info_number len v p k (target v p k)) no_info v _ r q) }
 
 -- what is told where the path leads to a place
-told_at : (len : ℕ) (v p : Bytes) (k d s : ℕ) (o : Opened) (i : Info) → opened_by len v p k ≡ o → opened_or o 0 ≡ 0 → target v p k ≡ there d s → info (total len) v s ≡ i
-    → Tells (get_info len v p k) (information.Told i)
+told_at : (len : ℕ) (v p : Bytes) (k d s : ℕ) (o : Result Opened Refusal) (i : Info) → opened_by len v p k ≡ o → opened_or o 0 ≡ 0 → target v p k ≡ there d s → info (total len) v s ≡ i
+    → Tells (get_info len v p k) (Ok i)
 unfolding get_info settle spot
 told_at len v p k d s o i e z t h =
     let q : get_info_number len v p k (target v p k) ≡ 0 = info_number_law len v p k ∙ ap (λ o. opened_or o 0) e ∙ z in
@@ -90,25 +88,25 @@ entry_told n v d s w off =
       modified = stamp_at v (at s + 0x21);
     })
 
-pub info_volume : (len : ℕ) (v p : Bytes) (k n : ℕ) → opened_by len v p k ≡ opened.Volume n → Fits len v n × Tells (get_info len v p k) (information.Told (volume_info n v))
+pub info_volume : (len : ℕ) (v p : Bytes) (k n : ℕ) → opened_by len v p k ≡ Ok (opened.Volume n) → Fits len v n × Tells (get_info len v p k) (Ok (volume_info n v))
 info_volume len v p k n e = go (opened_by len v p k) refl e (seen len v p k)
   where
-    go : (o : Opened) → opened_by len v p k ≡ o → o ≡ opened.Volume n → Seen len v p k o → Fits len v n × Tells (get_info len v p k) (information.Told (volume_info n v))
+    go : (o : Result Opened Refusal) → opened_by len v p k ≡ o → o ≡ Ok (opened.Volume n) → Seen len v p k o → Fits len v n × Tells (get_info len v p k) (Ok (volume_info n v))
     go o q z (refused r x) = let y : ◌≡◌ {A = ℕ} 0 1 = cc in absurd (omega arith)
     go o q z (on_volume d f t) =
         let m : total len ≡ n = cc in
-        rw (← m) (f, told_at len v p k d volume (opened.Volume (total len)) (volume_info (total len) v) q refl t (unfold info in refl))
+        rw (← m) (f, told_at len v p k d volume (Ok (opened.Volume (total len))) (volume_info (total len) v) q refl t (unfold info in refl))
     go o q z (on_entry d s f t off) = let y : ◌≡◌ {A = ℕ} 0 1 = cc in absurd (omega arith)
 
-pub info_entry : (len : ℕ) (v p : Bytes) (k n : ℕ) (g : Home) (s : Place) (x : Entry) → opened_by len v p k ≡ opened.Entry n g s x → Tells (get_info len v p k) (information.Told (told x))
+pub info_entry : (len : ℕ) (v p : Bytes) (k n : ℕ) (g : Home) (s : Place) (x : Entry) → opened_by len v p k ≡ Ok (opened.Entry n g s x) → Tells (get_info len v p k) (Ok (told x))
 info_entry len v p k n g s x e = go (opened_by len v p k) refl e (seen len v p k)
   where
-    go : (o : Opened) → opened_by len v p k ≡ o → o ≡ opened.Entry n g s x → Seen len v p k o → Tells (get_info len v p k) (information.Told (told x))
+    go : (o : Result Opened Refusal) → opened_by len v p k ≡ o → o ≡ Ok (opened.Entry n g s x) → Seen len v p k o → Tells (get_info len v p k) (Ok (told x))
     go o q z (refused r y) = let w : ◌≡◌ {A = ℕ} 0 1 = cc in absurd (omega arith)
     go o q z (on_volume d f t) = let w : ◌≡◌ {A = ℕ} 0 1 = cc in absurd (omega arith)
     go o q z (on_entry d y f t off) =
         let m : entry_of v (at y) ≡ x = cc in
-        rw (← m) (told_at len v p k d y (opened.Entry (total len) (home_of v d) (place_of y) (entry_of v (at y))) (told (entry_of v (at y))) q refl t
+        rw (← m) (told_at len v p k d y (Ok (opened.Entry (total len) (home_of v d) (place_of y) (entry_of v (at y)))) (told (entry_of v (at y))) q refl t
         (entry_told (total len) v d y (target_named (total len) v p k d y f.sane t) off))
 
 -- what get info tells of the volume

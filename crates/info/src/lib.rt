@@ -8,8 +8,8 @@ ghost use Rattle.model.specs.Info.{volume_info, get_info, space as spaceCall};
 ghost use Rattle.model.specs.Answers.{Tells, Measures};
 ghost use Rattle.info.specs.Told.{told};
 
-use model::{Entry, Info, InfoAnswer, SpaceAnswer, Stamp};
-use opening::{Opened, Volume};
+use model::{Entry, Info, Refusal, Space, Stamp};
+use opening::Opened;
 
 const MAP_BLOCK: usize = 6;
 
@@ -17,34 +17,29 @@ const MAP_BLOCK: usize = 6;
 const VOLUME_HEADER: usize = 1028;
 
 // Space: total and free blocks.
-pub fn space(img: &[u8]) -> SpaceAnswer
+pub fn space(img: &[u8]) -> Result<Space, Refusal>
     ensures { Measures (spaceCall (length img.now) (view img.now)) result }
 {
-    match opening::volume_in(img) {
-        Volume::Refused(why) => SpaceAnswer::Refused(why),
-        Volume::Sound(n) => SpaceAnswer::Blocks {
-            total: n as u16,
-            free: map::free_blocks(img, MAP_BLOCK, n) as u16,
-        },
-    }
+    let n = opening::volume_in(img)?;
+    Ok(Space {
+        total: n as u16,
+        free: map::free_blocks(img, MAP_BLOCK, n) as u16,
+    })
 }
 
 // What get info tells of an entry.
 fn entry_info(entry: Entry) -> Info
     ensures { result ≡ told entry }
 {
-    let kind = entry.kind;
-    let created = entry.created;
-    let modified = entry.modified;
     Info {
-        kind: model::kind_number(kind),
+        kind: u8::from(entry.kind),
         ftype: entry.ftype,
         access: entry.access,
         aux: entry.aux,
         used: entry.used,
         eof: entry.eof,
-        created,
-        modified,
+        created: entry.created,
+        modified: entry.modified,
     }
 }
 
@@ -78,12 +73,11 @@ fn volume_info(img: &[u8], n: usize) -> Info
 }
 
 // Get info: of the entry that a path leads to, or of the volume.
-pub fn get_info(img: &[u8], path: &[u8]) -> InfoAnswer
+pub fn get_info(img: &[u8], path: &[u8]) -> Result<Info, Refusal>
     ensures { Tells (get_info (length img.now) (view img.now) (view path.now) (length path.now)) result }
 {
-    match opening::opened_by(img, path) {
-        Opened::Refused(why) => InfoAnswer::Refused(why),
-        Opened::Volume(n) => InfoAnswer::Told(volume_info(img, n)),
-        Opened::Entry(_, _, _, entry) => InfoAnswer::Told(entry_info(entry)),
+    match opening::opened_by(img, path)? {
+        Opened::Volume(n) => Ok(volume_info(img, n)),
+        Opened::Entry(_, _, _, entry) => Ok(entry_info(entry)),
     }
 }

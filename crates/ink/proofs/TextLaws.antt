@@ -54,13 +54,6 @@ module _ (k x : ℕ) where
 pub text_at : (v : Bytes) (a b j k : ℕ) → a ≡ b → j ≡ k → text v a j ≡ text v b k
 text_at v a b j k p q = rw (p, q)
 
-pub text_next : (v : Bytes) (a k i : ℕ) → i < k → text v (a + i) (k - i) ≡ v (a + i) ∷ text v (a + (i + 1)) (k - (i + 1))
-unfolding text
-text_next v a k i h =
-    let p : k - i ≡ suc (k - (i + 1)) = omega arith in
-    let q : a + i + 1 ≡ a + (i + 1) = omega arith in
-    text_at v (a + i) (a + i) (k - i) (suc (k - (i + 1))) refl p ∙ ap (λ b. v (a + i) ∷ text v b (k - (i + 1))) q
-
 pub text_end : (v : Bytes) (a k : ℕ) → k ≡ 0 → text v a k ≡ []
 unfolding text
 text_end v a k h = rw h
@@ -73,6 +66,10 @@ text_split v a (suc j) k =
     let q : a + 1 + j ≡ a + suc j = omega arith in
     text_at v a a (suc j + k) (suc (j + k)) refl p
     ∙ ap (λ l. v a ∷ l) (text_split v (a + 1) j k ∙ ap (λ b. text v (a + 1) j ++ text v b k) q)
+
+pub text_more : (v : Bytes) (a i : ℕ) → text v a i ++ v (a + i) ∷ [] ≡ text v a (i + 1)
+unfolding text
+text_more v a i = sym (text_split v a i 1)
 
 pub text_same : (f g : Bytes) (a b k : ℕ) → ((i : ℕ) → i < k → f (a + i) ≡ g (b + i)) → text f a k ≡ text g b k
 unfolding text

@@ -7,7 +7,7 @@ ghost use Rattle.model.specs.Bytes.{view};
 ghost use Rattle.model.specs.Catalog.{decimal_before, decimal, hex_digit, hex_byte, text, space'};
 ghost use Rattle.ink.specs.Ink.{sheet, Prints};
 
-const SPACE: u8 = 32;
+const SPACE: u8 = b' ';
 
 // Bytes of the text that are still to be skipped, and bytes of the page that are written.
 #[derive(Clone, Copy)]
@@ -17,21 +17,21 @@ pub struct Ink {
 }
 
 // Skips the byte, lays it on the page, or drops it past the page's end.
+#[tactic(auto, using(crate::proofs::InkLaws::byte_skipped, crate::proofs::InkLaws::byte_laid, crate::proofs::InkLaws::byte_past))]
 pub fn emit_byte(page: &mut [u8], ink: Ink, byte: u8) -> Ink
     ensures { Prints (byte ∷ []) (sheet ink page.old) (sheet result page.new) }
 {
-    let at = ink.at;
     if 0 < ink.skip {
         return Ink {
             skip: ink.skip - 1,
-            at,
+            ..ink
         };
     }
-    if at < page.len() {
-        page[at] = byte;
+    if ink.at < page.len() {
+        page[ink.at] = byte;
         return Ink {
-            skip: ink.skip,
-            at: at + 1,
+            at: ink.at + 1,
+            ..ink
         };
     }
     ink
@@ -43,10 +43,8 @@ pub fn emit_run(page: &mut [u8], ink: Ink, s: &[u8], start: usize, count: usize)
     ensures { Prints (text (view s.now) start count) (sheet ink page.old) (sheet result page.new) }
 {
     let mut now = ink;
-    let mut passed = 0;
-    while passed < count {
-        now = emit_byte(page, now, s[start + passed]);
-        passed += 1;
+    for byte in &s[start..start + count] {
+        now = emit_byte(page, now, *byte);
     }
     now
 }
@@ -59,10 +57,10 @@ pub fn emit_number(page: &mut [u8], ink: Ink, places: usize, x: usize) -> Ink
         return ink;
     }
     if x < 10 {
-        return emit_byte(page, ink, 48 + x as u8);
+        return emit_byte(page, ink, b'0' + x as u8);
     }
     let high = emit_number(page, ink, places - 1, x / 10);
-    emit_byte(page, high, 48 + (x % 10) as u8)
+    emit_byte(page, high, b'0' + (x % 10) as u8)
 }
 
 // A space and a number in decimal: no number of a listing has more than eight digits.
@@ -73,14 +71,15 @@ pub fn emit_decimal(page: &mut [u8], ink: Ink, x: usize) -> Ink
     emit_number(page, spaced, 8, x)
 }
 
+#[tactic(auto, using(crate::proofs::TextLaws::hex_low, crate::proofs::TextLaws::hex_high))]
 pub fn hex_digit(x: u8) -> u8
     requires { x < 16 }
     ensures { result ≡ hex_digit x }
 {
-    if x < 10 {
-        return 48 + x;
+    match x {
+        0..=9 => b'0' + x,
+        _ => b'A' + (x - 10),
     }
-    55 + x
 }
 
 pub fn emit_hex_byte(page: &mut [u8], ink: Ink, x: u8) -> Ink

@@ -1,19 +1,13 @@
 -- A line read in the forms of its command: the fields in those forms are the fields of the line. Assumes nothing.
-use Prim.Native.Nat.{ℕ, ◌-◌}
+use Prim.Native.Nat.{ℕ}
 use mathlib.Core.Path.{◌≡◌, subst}
 use mathlib.Core.List.{List}
 use mathlib.Core.Bool.{Bool}
-use native.Mathlib.Omega.{arith}
-use lib.ListN.{length, take}
-use Rattle.model.specs.Bytes.{Bytes, view}
+use Rattle.model.specs.Bytes.{Bytes}
 use Rattle.model.specs.Catalog.{space'}
-use Rattle.script.specs.Fields.{Fits, Takes, end_at}
+use Rattle.script.specs.Fields.{Takes, end_at}
 use Rattle.lines.specs.declared.Command.{Command}
 use Rattle.lines.specs.Commands.{change_from, forms_of, command_of, fields_in, asked, Fitting}
-
--- the first elements, as the part from the start on
-pub front_as : (xs : List ℕ) (k : ℕ) {ys : List ℕ} → take k xs ≡ ys → take (k - 0) xs ≡ ys
-front_as xs k e = let d : k - 0 ≡ k = omega arith in rw d e
 
 -- A line s of n bytes whose word ends at e and names k, and the forms of k.
 module _ (s : Bytes) (n e : ℕ) (k : Command) (ends : e ≡ end_at s n space' 0) (says : k ≡ change_from s n e) where
@@ -27,9 +21,6 @@ module _ (s : Bytes) (n e : ℕ) (k : Command) (ends : e ≡ end_at s n space' 0
   line_takes m values room buffer forms {r} {vs} {ts} {bs} q h =
       rw (← line_command, ← ends)
       (subst (λ (l : List ℕ). Takes (fields_in s n m e l values room buffer) n r vs ts bs) q h)
-
-pub line_fits : (k : Command) (m : ℕ) (forms vs : List ℕ) → forms ≡ forms_of k → Fits m (view forms) (length forms) (view vs) → Fitting k m vs
-line_fits k m forms vs e h = rw e at h
 
 -- The bounds of a command's fields go by its name.
 pub fits_by : (vs : List ℕ) {k j : Command} {m n : ℕ} → k ≡ j → m ≡ n → Fitting k m vs → Fitting j n vs

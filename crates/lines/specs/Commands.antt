@@ -1,5 +1,5 @@
 -- What a line of a script says, as docs/REPLAY.md has it: the command of its word, and the fields behind it. A line is s, of n bytes.
-use Rattle.std.specs.Prelude.{ℕ, List, [], ◌∷◌, Bool, true, false, length}
+use Rattle.std.specs.Prelude.{ℕ, List, [], ◌∷◌, Bool, true, false, length, Result, Ok, Err}
 use Rattle.model.specs.Bytes.{Bytes, view, paste, from, zeros}
 use Rattle.model.specs.Catalog.{space'}
 use Rattle.script.specs.Fields.{Fields, Fits, is_word, end_at, read_fields}
@@ -9,6 +9,7 @@ use Rattle.lines.specs.declared.Call.{Call}
 use Rattle.lines.specs.declared.Call.TheVariants as call
 use Rattle.lines.specs.declared.Change.{Change}
 use Rattle.lines.specs.declared.Change.TheVariants as change
+use Rattle.lines.specs.declared.BadFields.{BadFields}
 use Rattle.lines.specs.declared.Command.{Command}
 use Rattle.lines.specs.declared.Command.TheVariants as command
 
@@ -63,6 +64,11 @@ change_from s n e = named (says s n e) change_words (look_from s n e)
 -- a line by its word; "the command is unknown" where there is none
 unfoldable pub command_of : Bytes → ℕ → Command
 command_of s n = change_from s n (end_at s n space' 0)
+
+-- the command that reading a line answers, where its fields are good and where they are bad
+abbrev pub named_by : Result Command BadFields → Command
+named_by (Ok k) = k
+named_by (Err e) = e.command
 
 -- The forms of a command's fields: T a text, S a second one, D data, N a number, H one of at most 65,535, B a byte.
 abbrev pub look_forms : Look → List ℕ

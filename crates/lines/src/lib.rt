@@ -1,12 +1,11 @@
 // A line of a script: the command that its word names, and the fields behind it. All of them are read before anything is done.
 #![tactic(auto)]
 
-ghost use Rattle.std.specs.Prelude.{◌≡◌, true, ◌≤◌, length, take};
+ghost use Rattle.std.specs.Prelude.{◌≡◌, ◌≤◌, IfOk, length};
+ghost use Rattle.std.specs.Result.{is_ok};
 ghost use Rattle.model.specs.Bytes.{view};
 ghost use Rattle.script.specs.Fields.{Takes};
-ghost use Rattle.lines.specs.Commands.{look_from, change_from, look_forms, call_forms, change_forms, forms_of, command_of, asked, Fitting};
-
-use ink::Ink;
+ghost use Rattle.lines.specs.Commands.{look_from, change_from, look_forms, call_forms, change_forms, forms_of, command_of, named_by, asked, Fitting};
 
 // The commands that only look.
 #[derive(Clone, Copy)]
@@ -40,7 +39,7 @@ pub enum Change {
     SetRun,
 }
 
-// `Blocks` and `Bytes` make a new image.
+// `Blocks` and `Bytes` make a new image. `Unknown` is a case like the others and no `None`: its line is read in forms too, which are none.
 #[derive(Clone, Copy)]
 pub enum Command {
     Blocks,
@@ -50,25 +49,10 @@ pub enum Command {
     Unknown,
 }
 
-// What a line says, and whether its fields are good.
+// The fields of a line are bad, and this is the command that its word names.
 #[derive(Clone, Copy)]
-pub struct Line {
+pub struct BadFields {
     pub command: Command,
-    pub good: bool,
-}
-
-// What a command leaves: the page, and whether its line was good.
-#[derive(Clone, Copy)]
-pub struct Said {
-    pub ink: Ink,
-    pub good: bool,
-}
-
-// The forms of a command's fields, in the first bytes.
-#[derive(Clone, Copy)]
-struct Forms {
-    size: usize,
-    bytes: [u8; 6],
 }
 
 #[tactic(auto, unfolding(crate::specs::Commands::named))]
@@ -141,125 +125,74 @@ fn command_of(line: &[u8], end: usize) -> Command
 }
 
 // A text is T, a second one S, data D, a number N, one of at most 65,535 H, a byte B.
-fn look_forms(look: Look) -> Forms
-    ensures { (result.size ≤ 6) × (length result.bytes ≡ 6) × (take result.size result.bytes ≡ look_forms look) }
+fn look_forms(look: Look) -> &'static [u8]
+    ensures { result.now ≡ look_forms look }
 {
     match look {
-        Look::Digest => Forms {
-            size: 0,
-            bytes: *b"      ",
-        },
-        Look::Block => Forms {
-            size: 1,
-            bytes: *b"N     ",
-        },
-        Look::Space => Forms {
-            size: 0,
-            bytes: *b"      ",
-        },
-        Look::GetInfo => Forms {
-            size: 1,
-            bytes: *b"T     ",
-        },
-        Look::Read => Forms {
-            size: 3,
-            bytes: *b"TNN   ",
-        },
-        Look::Find => Forms {
-            size: 1,
-            bytes: *b"T     ",
-        },
+        Look::Digest => b"",
+        Look::Block => b"N",
+        Look::Space => b"",
+        Look::GetInfo => b"T",
+        Look::Read => b"TNN",
+        Look::Find => b"T",
     }
 }
 
-fn call_forms(call: Call) -> Forms
-    ensures { (result.size ≤ 6) × (length result.bytes ≡ 6) × (take result.size result.bytes ≡ call_forms call) }
+fn call_forms(call: Call) -> &'static [u8]
+    ensures { result.now ≡ call_forms call }
 {
     match call {
-        Call::Format => Forms {
-            size: 3,
-            bytes: *b"THH   ",
-        },
-        Call::Create => Forms {
-            size: 6,
-            bytes: *b"TBBHHH",
-        },
-        Call::Destroy => Forms {
-            size: 1,
-            bytes: *b"T     ",
-        },
-        Call::Rename => Forms {
-            size: 2,
-            bytes: *b"TS    ",
-        },
-        Call::SetInfo => Forms {
-            size: 5,
-            bytes: *b"TBHHH ",
-        },
-        Call::SetEof => Forms {
-            size: 4,
-            bytes: *b"TNHH  ",
-        },
+        Call::Format => b"THH",
+        Call::Create => b"TBBHHH",
+        Call::Destroy => b"T",
+        Call::Rename => b"TS",
+        Call::SetInfo => b"TBHHH",
+        Call::SetEof => b"TNHH",
     }
 }
 
-fn change_forms(change: Change) -> Forms
-    ensures { (result.size ≤ 6) × (length result.bytes ≡ 6) × (take result.size result.bytes ≡ change_forms change) }
+fn change_forms(change: Change) -> &'static [u8]
+    ensures { result.now ≡ change_forms change }
 {
     match change {
         Change::Call(call) => call_forms(call),
-        Change::Write => Forms {
-            size: 5,
-            bytes: *b"TNHHD ",
-        },
-        Change::Fill => Forms {
-            size: 6,
-            bytes: *b"TNHHNB",
-        },
-        Change::Set => Forms {
-            size: 2,
-            bytes: *b"ND    ",
-        },
-        Change::SetRun => Forms {
-            size: 3,
-            bytes: *b"NNB   ",
-        },
+        Change::Write => b"TNHHD",
+        Change::Fill => b"TNHHNB",
+        Change::Set => b"ND",
+        Change::SetRun => b"NNB",
     }
 }
 
-fn forms_of(command: Command) -> Forms
-    ensures { (result.size ≤ 6) × (length result.bytes ≡ 6) × (take result.size result.bytes ≡ forms_of command) }
+fn forms_of(command: Command) -> &'static [u8]
+    ensures { result.now ≡ forms_of command }
 {
     match command {
-        Command::Blocks => Forms {
-            size: 1,
-            bytes: *b"N     ",
-        },
-        Command::Bytes => Forms {
-            size: 1,
-            bytes: *b"N     ",
-        },
+        Command::Blocks => b"N",
+        Command::Bytes => b"N",
         Command::Look(look) => look_forms(look),
         Command::Change(change) => change_forms(change),
-        Command::Unknown => Forms {
-            size: 0,
-            bytes: *b"      ",
-        },
+        Command::Unknown => b"",
     }
 }
 
 // Reads the line's word and, in the forms of its command, all fields.
-pub fn read_line(line: &[u8], values: &mut [usize], room: &mut [u8], buffer: &mut [u8]) -> Line
+#[tactic(auto, using(crate::proofs::ReadLaws::line_command))]
+pub fn read_line(
+    line: &[u8],
+    values: &mut [usize],
+    room: &mut [u8],
+    buffer: &mut [u8],
+) -> Result<Command, BadFields>
     requires { (length line.now ≤ 4096) × (6 ≤ length values.old) × (length room.old ≡ 256) }
-    ensures command_value { result.command ≡ command_of (view line.now) (length line.now) }
-    ensures takes { Takes (asked (view line.now) (length line.now) (length buffer.old) (view values.old) (view room.old) (view buffer.old)) (length line.now) result.good values.new room.new buffer.new }
-    ensures fitting { result.good ≡ true → Fitting result.command (length buffer.old) values.new }
+    ensures command_value { named_by result ≡ command_of (view line.now) (length line.now) }
+    ensures takes { Takes (asked (view line.now) (length line.now) (length buffer.old) (view values.old) (view room.old) (view buffer.old)) (length line.now) (is_ok result) values.new room.new buffer.new }
+    ensures fitting { IfOk result (λ k. Fitting k (length buffer.old) values.new) }
 {
     let end = script::word_end(line);
     let command = command_of(line, end);
-    let forms = forms_of(command);
-    let bytes = forms.bytes;
-    let size = forms.size;
-    let good = script::read_fields(line, end, &bytes[0..size], values, room, buffer);
-    Line { command, good }
+    if script::read_fields(line, end, forms_of(command), values, room, buffer) {
+        Ok(command)
+    } else {
+        Err(BadFields { command })
+    }
 }

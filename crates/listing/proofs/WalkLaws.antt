@@ -241,10 +241,6 @@ module _ (img : List ℕ) (l s a : ℕ) (whole : Whole img) (w : Listed (view im
   pub slot_few : s / 13 < block_count img → s / 13 < 65536
   slot_few h = omega (arith, (sound_facts (block_count img) (view img) whole.safe).most)
 
-  pub slot_inside : s / 13 < block_count img → a + 39 ≤ length img
-  unfolding at
-  slot_inside h = omega (arith, whole.size, start)
-
   pub slot_quiet : (p : List ℕ) → view img a / 16 ≡ 0 → [] ≡ walked (view img) l p (s ∷ [])
   slot_quiet p h = quiet_text (view img) l p s w.entry (kind_at 0 h)
 
@@ -269,6 +265,9 @@ module _ (img : List ℕ) (l s a : ℕ) (whole : Whole img) (w : Listed (view im
 -- The volume itself.
 pub whole : (n : ℕ) (img : List ℕ) → length img ≡ n * 512 → sound n (view img) ≡ true → Whole img
 whole n img e h = let b : length img / 512 ≡ n = omega arith in record { size = omega arith; safe = rw b h }
+
+pub volume_large : (n : ℕ) (img : List ℕ) → sound n (view img) ≡ true → length img ≡ n * 512 → 8192 ≤ length img
+volume_large n img h e = omega (arith, (sound_facts n (view img) h).least)
 
 pub map_inside : (n m : ℕ) (v : Bytes) → sound n v ≡ true → m ≡ map_block v → (n ≤ 65535) × (m * 512 + map_blocks n * 512 ≤ n * 512)
 unfolding map_blocks

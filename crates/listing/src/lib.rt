@@ -37,11 +37,11 @@ const MAP_FIELD: usize = 1063;
 // The longest path: the volume, a directory on each level and a file, each a slash and 15 bytes.
 const PATH_ROOM: usize = 528;
 
-const SPACE: u8 = 32;
+const SPACE: u8 = b' ';
 
-const NEWLINE: u8 = 10;
+const NEWLINE: u8 = b'\n';
 
-const SLASH: u8 = 47;
+const SLASH: u8 = b'/';
 
 // The line of an entry whose path is the first `len` bytes of `path`.
 fn emit_line(page: &mut [u8], ink: Ink, slot: &[u8], path: &[u8], len: usize) -> Ink
@@ -70,9 +70,11 @@ fn extend(path: &mut [u8], len: usize, img: &[u8], at: usize) -> usize
 }
 
 // Where a slot stands, slots being counted from block 0 on.
+#[tactic(auto, unfolding(model::specs::Directory::at))]
 fn address_of(slot: usize) -> usize
     requires { slot / 13 < 65536 }
-    ensures { result ≡ at slot }
+    ensures value { result ≡ at slot }
+    ensures inside { result + 39 ≤ slot / 13 * 512 + 512 }
 {
     slot / SLOTS * BLOCK + 4 + SLOT_SIZE * (slot % SLOTS)
 }
@@ -97,9 +99,8 @@ fn list_entry(
     if kind == 0 {
         return ink;
     }
-    let end = at + SLOT_SIZE;
     let below = extend(path, len, img, at);
-    let listed = emit_line(page, ink, &img[at..end], path, below);
+    let listed = emit_line(page, ink, &img[at..at + SLOT_SIZE], path, below);
     if kind != DIRECTORY {
         return listed;
     }
@@ -126,10 +127,8 @@ fn list_block(
     ensures len_unchanged { text (view path.new) 0 len ≡ text (view path.old) 0 len }
 {
     let mut now = ink;
-    let mut slot = first;
-    while slot <= SLOTS {
+    for slot in first..=SLOTS {
         now = list_entry(img, block * SLOTS + slot - 1, levels, page, now, path, len);
-        slot += 1;
     }
     now
 }
@@ -152,18 +151,17 @@ fn list_directory(
 {
     let mut now = ink;
     let mut block = key;
-    let mut left = used;
-    let mut first: usize = 2;
-    while 0 < left {
+    let mut first = 2;
+    for _ in 0..used {
         now = list_block(img, block, first, levels, page, now, path, len);
         block = store::get_word(img, block * BLOCK + 2);
-        left -= 1;
         first = 1;
     }
     now
 }
 
 // Name, total, free.
+#[tactic(auto, using(crate::proofs::WalkLaws::volume_large))]
 fn emit_first_line(img: &[u8], n: usize, page: &mut [u8], ink: Ink) -> Ink
     requires { (length img.now ≡ n * 512) × (sound n (view img.now) ≡ true) }
     ensures { Prints (first_line n (view img.now)) (sheet ink page.old) (sheet result page.new) }
@@ -177,6 +175,7 @@ fn emit_first_line(img: &[u8], n: usize, page: &mut [u8], ink: Ink) -> Ink
 }
 
 // The whole listing; `path` is room for the longest path.
+#[tactic(auto, using(crate::proofs::WalkLaws::volume_large))]
 fn list_volume(img: &[u8], n: usize, page: &mut [u8], ink: Ink, path: &mut [u8; PATH_ROOM]) -> Ink
     requires { (length img.now ≡ n * 512) × (sound n (view img.now) ≡ true) }
     ensures { Prints (listing n (view img.now)) (sheet ink page.old) (sheet result page.new) }
@@ -195,42 +194,37 @@ fn list_volume(img: &[u8], n: usize, page: &mut [u8], ink: Ink, path: &mut [u8; 
     )
 }
 
+// The ink of a page that nothing is on yet, and that shows the text from an offset on.
+fn blank(offset: usize) -> Ink
+    ensures { result ≡ record { skip = offset; at = 0 } }
+{
+    Ink {
+        skip: offset,
+        at: 0,
+    }
+}
+
 // The page of a sound volume's listing from an offset on: how many bytes it has.
 pub fn page_of_volume(img: &[u8], n: usize, offset: usize, page: &mut [u8]) -> usize
     requires { (length img.now ≡ n * 512) × (sound n (view img.now) ≡ true) }
     ensures { Shows (listing n (view img.now)) offset page.old result page.new }
 {
     let mut path = [0u8; PATH_ROOM];
-    let start = Ink {
-        skip: offset,
-        at: 0,
-    };
-    let end = list_volume(img, n, page, start, &mut path);
-    end.at
+    list_volume(img, n, page, blank(offset), &mut path).at
 }
 
 // The page of the line for a refused image.
 pub fn page_of_refusal(number: u8, offset: usize, page: &mut [u8]) -> usize
     ensures { Shows (refused_line number) offset page.old result page.new }
 {
-    let start = Ink {
-        skip: offset,
-        at: 0,
-    };
-    let word = ink::emit_run(page, start, b"REFUSED ", 0, 8);
+    let word = ink::emit_run(page, blank(offset), b"REFUSED ", 0, 8);
     let digits = ink::emit_hex_byte(page, word, number);
-    let end = ink::emit_byte(page, digits, NEWLINE);
-    end.at
+    ink::emit_byte(page, digits, NEWLINE).at
 }
 
 // The page of the line for an image that is too large.
 pub fn page_of_too_large(offset: usize, page: &mut [u8]) -> usize
     ensures { Shows too_large_line offset page.old result page.new }
 {
-    let start = Ink {
-        skip: offset,
-        at: 0,
-    };
-    let end = ink::emit_run(page, start, b"TOO LARGE\n", 0, 10);
-    end.at
+    ink::emit_run(page, blank(offset), b"TOO LARGE\n", 0, 10).at
 }

@@ -2,37 +2,32 @@
 use Prim.Native.Nat.{ℕ, ◌+◌, ◌*◌, ◌≤◌, ◌<◌}
 use mathlib.Core.Path.{◌≡◌, refl, ap}
 use mathlib.Core.List.{List}
-use mathlib.Core.Bool.{Bool, true, false}
 use borrow.Author.Tests.{le-leb, lt-leb}
-use Rattle.model.specs.Bytes.{Bytes, view}
+use Rattle.model.specs.Bytes.{Bytes}
 use Rattle.ink.specs.Ink.{Sheet, sheet, Prints}
 use Rattle.ink.specs.declared.Ink.{Ink}
 use Rattle.ink.proofs.InkLaws.{prints_none}
 use Rattle.script.specs.Fields.{Fields}
 use Rattle.replies.specs.Lines.{bytes_line}
 use Rattle.lines.specs.declared.Look.{Look}
-use Rattle.lines.specs.declared.Said.{Said}
+use Rattle.std.specs.Prelude.{Option, Some, None}
 use Rattle.lines.specs.Commands.{cut}
 use Rattle.lines.specs.Left.{Leaves, Says}
 use Rattle.lines.proofs.LeftLaws.{leaves_as}
-use Rattle.looks.specs.Looks.{has_block, block_line, saying, looked}
+use Rattle.looks.specs.Looks.{has_block, block_line, looked}
 
 -- `block`: the image has it not, and has it
 module _ (n : ℕ) (v : Bytes) (b : ℕ) {k : Ink} {p : List ℕ} where
-  pub block_none : n < b * 512 + 512 → Says (has_block n b) (block_line n v b) (sheet k p) (record { ink = k; good = false }) p
+  pub block_none : n < b * 512 + 512 → Says (has_block n b) (block_line n v b) (sheet k p) None p
   unfolding block_line
   block_none h = rw (lt-leb (b * 512 + 512) n h, block_line) (record { good = refl; page = prints_none })
 
-  pub block_said : {s : Sheet} {said : Said} → b * 512 + 512 ≤ n → said ≡ record { ink = k; good = true }
+  pub block_said : {s : Sheet} {said : Option Ink} → b * 512 + 512 ≤ n → said ≡ Some k
       → Prints (bytes_line (cut v (b * 512) 512) 512) s (sheet k p) → Says (has_block n b) (block_line n v b) s said p
   unfolding block_line
   block_said h e w = rw (e, le-leb (b * 512 + 512) n h, block_line) (record { good = refl; page = w })
 
-pub says_leaves : {fine : Bool} {text : List ℕ} {s : Sheet} {said : Said} {i b p : List ℕ} (f : Fields) → view b ≡ f.buffer → Says fine text s said p
-    → Leaves (saying fine text (view i) f) s said i b p
-says_leaves f e h = record { good = h.good; image = refl; buffer = e; page = h.page }
-
 -- A look by its name.
-pub looked_by : (n : ℕ) (v : Bytes) (m : ℕ) (f : Fields) {k j : Look} {s : Sheet} {said : Said} {i b p : List ℕ} → k ≡ j → Leaves (looked j n v m f) s said i b p
+pub looked_by : (n : ℕ) (v : Bytes) (m : ℕ) (f : Fields) {k j : Look} {s : Sheet} {said : Option Ink} {i b p : List ℕ} → k ≡ j → Leaves (looked j n v m f) s said i b p
     → Leaves (looked k n v m f) s said i b p
 looked_by n v m f e h = leaves_as (ap (λ (k : Look). looked k n v m f) e) h

@@ -1,5 +1,6 @@
 -- The commands of a script that only look, as docs/REPLAY.md has them: each with its fields f, on an image v of n bytes and with a buffer of m bytes.
-use Rattle.std.specs.Prelude.{ℕ, zero, suc, ◌+◌, ◌-◌, ◌*◌, ◌/◌, ◌≡◌, List, [], ◌∷◌, Bool, true, false, leb, eqb}
+use Rattle.model.specs.declared.Refusal.{Refusal}
+use Rattle.std.specs.Prelude.{ℕ, zero, suc, ◌+◌, ◌-◌, ◌*◌, ◌/◌, ◌≡◌, List, [], ◌∷◌, Bool, true, false, leb, eqb, Result, Ok, Err}
 use Rattle.model.specs.Bytes.{Bytes, view, paste, same, zeros, word}
 use Rattle.model.specs.Catalog.{refused_line}
 use Rattle.model.specs.Refusals.{refusal_number, Outcome}
@@ -76,10 +77,10 @@ abbrev pub place_forms : List ℕ
 place_forms = number ∷ number ∷ number ∷ []
 
 -- `find PATH`: "where its entry stands"; "for the volume `OK 2 1 1`"
-unfoldable pub found_line : ℕ → Bytes → Opened → List ℕ
-found_line n v (opened.Refused r) = refused_line (refusal_number r)
-found_line n v (opened.Volume x) = ok_line place_forms (2 ∷ 1 ∷ 1 ∷ [])
-found_line n v (opened.Entry x home place entry) = ok_line place_forms (place.block ∷ place.slot ∷ blocks_read n v home.key place.block ∷ [])
+unfoldable pub found_line : ℕ → Bytes → Result Opened Refusal → List ℕ
+found_line n v (Err r) = refused_line (refusal_number r)
+found_line n v (Ok (opened.Volume x)) = ok_line place_forms (2 ∷ 1 ∷ 1 ∷ [])
+found_line n v (Ok (opened.Entry x home place entry)) = ok_line place_forms (place.block ∷ place.slot ∷ blocks_read n v home.key place.block ∷ [])
 
 -- what a command leaves that changes nothing but the page
 abbrev pub saying : Bool → List ℕ → Bytes → Fields → Left

@@ -1,7 +1,7 @@
 // The commands of a script that only look: no byte of the image changes. Their fields have been read.
 #![tactic(auto)]
 
-ghost use Rattle.std.specs.Prelude.{◌≡◌, true, [], ◌∷◌, ◌≤◌, length};
+ghost use Rattle.std.specs.Prelude.{◌≡◌, [], ◌∷◌, ◌≤◌, length};
 ghost use Rattle.model.specs.Bytes.{view};
 ghost use Rattle.model.specs.Read.{read as readCall};
 ghost use Rattle.ink.specs.Ink.{sheet, Prints};
@@ -14,7 +14,7 @@ ghost use Rattle.looks.specs.Looks.{equals, has_block, block_line, info_line, Re
 
 use directory::Home;
 use ink::Ink;
-use lines::{Look, Said};
+use lines::Look;
 use model::Place;
 use opening::Opened;
 use script::FIELDS;
@@ -24,24 +24,19 @@ const BLOCK: usize = 512;
 // What a buffer holds before a read, so that bytes left alone are seen.
 const BEFORE: u8 = 0xA5;
 
-fn good(ink: Ink) -> Said
-    ensures { result ≡ record { ink = ink; good = true } }
-{
-    Said { ink, good: true }
-}
-
-fn block(img: &[u8], number: usize, page: &mut [u8], ink: Ink) -> Said
+fn block(img: &[u8], number: usize, page: &mut [u8], ink: Ink) -> Option<Ink>
     requires { number ≤ 4294967295 }
     ensures { Says (has_block (length img.now) number) (block_line (length img.now) (view img.now) number) (sheet ink page.old) result page.new }
 {
     let start = number * BLOCK;
     let end = start + BLOCK;
     if img.len() < end {
-        return Said { ink, good: false };
+        return None;
     }
-    good(replies::say_bytes(page, ink, &img[start..end]))
+    Some(replies::say_bytes(page, ink, &img[start..end]))
 }
 
+#[tactic(auto, unfolding(crate::specs::Looks::info_line))]
 fn get_info(img: &[u8], path: &[u8], page: &mut [u8], ink: Ink) -> Ink
     ensures { Prints (info_line (length img.now) (view img.now) (view path.now) (length path.now)) (sheet ink page.old) (sheet result page.new) }
 {
@@ -73,18 +68,17 @@ fn read(
     buffer: &mut [u8],
     page: &mut [u8],
     ink: Ink,
-) -> Said
+) -> Option<Ink>
     requires { (length room.now ≡ 256) × (view values.now 0 ≤ 128) }
     ensures { Leaves (read_look (length img.now) (view img.now) (length buffer.old) (held values.now room.now buffer.old)) (sheet ink page.old) result img.now buffer.new page.new }
 {
-    let size = values[0];
     let count = values[2];
     if buffer.len() < count {
-        return Said { ink, good: false };
+        return None;
     }
-    good(read_into(
+    Some(read_into(
         img,
-        &room[0..size],
+        &room[0..values[0]],
         values[1],
         &mut buffer[0..count],
         page,
@@ -98,18 +92,13 @@ fn blocks_read(img: &[u8], key: usize, goal: usize) -> usize
 {
     let most = img.len() / BLOCK;
     let mut block = key;
-    let mut read: usize = 1;
-    while read < most {
-        if block == goal {
-            return read;
-        }
-        if most <= block {
+    for read in 1..most {
+        if block == goal || most <= block {
             return read;
         }
         block = store::get_word(img, block * BLOCK + 2);
-        read += 1;
     }
-    read
+    most.max(1)
 }
 
 fn say_found(img: &[u8], home: Home, place: Place, page: &mut [u8], ink: Ink) -> Ink
@@ -121,17 +110,19 @@ fn say_found(img: &[u8], home: Home, place: Place, page: &mut [u8], ink: Ink) ->
 }
 
 // Where the entry stands that a path leads to; the volume's header is slot 1 of block 2.
+#[tactic(auto, unfolding(crate::specs::Looks::found_line))]
 fn find(img: &[u8], path: &[u8], page: &mut [u8], ink: Ink) -> Ink
     ensures { Prints (found_line (length img.now) (view img.now) (opened_by (length img.now) (view img.now) (view path.now) (length path.now))) (sheet ink page.old) (sheet result page.new) }
 {
     match opening::opened_by(img, path) {
-        Opened::Refused(why) => replies::say_refused(page, ink, why),
-        Opened::Volume(_) => replies::say_ok(page, ink, b"NNN", &[2, 1, 1]),
-        Opened::Entry(_, home, place, _) => say_found(img, home, place, page, ink),
+        Err(why) => replies::say_refused(page, ink, why),
+        Ok(Opened::Volume(_)) => replies::say_ok(page, ink, b"NNN", &[2, 1, 1]),
+        Ok(Opened::Entry(_, home, place, _)) => say_found(img, home, place, page, ink),
     }
 }
 
 // A command whose fields are good.
+#[tactic(auto, unfolding(crate::specs::Looks::looked))]
 pub fn run(
     look: Look,
     img: &[u8],
@@ -140,17 +131,17 @@ pub fn run(
     buffer: &mut [u8],
     page: &mut [u8],
     ink: Ink,
-) -> Said
+) -> Option<Ink>
     requires { (Fitting (command.Look look) (length buffer.old) values.now) × (length room.now ≡ 256) }
     ensures { Leaves (looked look (length img.now) (view img.now) (length buffer.old) (held values.now room.now buffer.old)) (sheet ink page.old) result img.now buffer.new page.new }
 {
     let first = values[0];
     match look {
-        Look::Digest => good(replies::say_digest(page, ink, img)),
+        Look::Digest => Some(replies::say_digest(page, ink, img)),
         Look::Block => block(img, first, page, ink),
-        Look::Space => good(replies::say_space(page, ink, info::space(img))),
-        Look::GetInfo => good(get_info(img, &room[0..first], page, ink)),
+        Look::Space => Some(replies::say_space(page, ink, info::space(img))),
+        Look::GetInfo => Some(get_info(img, &room[0..first], page, ink)),
         Look::Read => read(img, values, room, buffer, page, ink),
-        Look::Find => good(find(img, &room[0..first], page, ink)),
+        Look::Find => Some(find(img, &room[0..first], page, ink)),
     }
 }

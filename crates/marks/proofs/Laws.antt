@@ -2,8 +2,8 @@
 use mathlib.Core.Path.{◌≡◌, refl, sym, ap, ◌∙◌, fun_ext}
 use mathlib.Core.List.{List, [], ◌∷◌, ◌++◌}
 use mathlib.Core.Bool.{Bool, true, false, not, beq}
-use mathlib.Core.Option.{Option, none, some}
-use Prim.Native.Nat.{ℕ, zero, suc, ◌+◌, ◌-◌, ◌*◌, ◌/◌, ◌%◌, ◌≤◌, ◌<◌}
+use mathlib.Core.Option.{none, some}
+use Prim.Native.Nat.{ℕ, zero, suc, ◌+◌, ◌-◌, ◌*◌, ◌/◌, ◌%◌, ◌^◌, ◌≤◌, ◌<◌}
 use native.Mathlib.Omega.{arith}
 use borrow.Author.Tests.{eqb-true, eqb-false, eq-eqb, ne_eqb, ltb-true, ltb-false, lt-ltb, le-ltb, le-leb, leb-true}
 use lib.Dec.{eqb, leb, ltb}
@@ -19,7 +19,11 @@ use Rattle.claims.proofs.TestLaws.{decide}
 use Rattle.claims.proofs.SumLaws.{gather_step, gather_end}
 use Rattle.claims.proofs.ClaimLaws.{taken, refused, must_on, must_off, block_on, block_outside, chain_step, chain_end, limb_hole, limb_held}
 use Rattle.claims.proofs.Agreement.{map_step, map_wrong}
-use Rattle.marks.specs.Marks.{marks, nothing}
+use Rattle.marks.specs.Marks.{marks, nothing, took_all, took_count}
+use Rattle.std.specs.Prelude.{Option as Answer, Some, None}
+use Rattle.std.specs.Bool.{MatchBool}
+use Rattle.std.specs.List.{AllWithin, HoldsAt, range_with_len}
+use Rattle.std.proofs.lemmas.List.FromFn.{get_or-range_with_len, length-range_with_len}
 
 -- A slice of marks is a map that starts at block 0: to mark a block is to give it there.
 pub marks_free : (l : List ℕ) (b : ℕ) → marks l b ≡ eqb (free 0 (view l) b) 1
@@ -108,17 +112,9 @@ unfolding claim
 must_alone n s true = refl
 must_alone n s false = refl
 
--- an outcome whose answer is known
-module _ (s : Seen) (r : Bool) (o : Option Seen) (answer : outcome r s ≡ o) where
-  pub when_taken : r ≡ true → some s ≡ o
-  when_taken q = sym (ap (λ (r : Bool). outcome r s) q) ∙ answer
-
-  pub when_refused : r ≡ false → none ≡ o
-  when_refused q = sym (ap (λ (r : Bool). outcome r s) q) ∙ answer
-
 no_outcome : (s : Seen) (r : Bool) → r ≡ true → outcome r s ≡ none → ⊥
 no_outcome s r q e =
-    let w = when_taken s r none e q in
+    let w : some s ≡ none = sym (ap (λ (r : Bool). outcome r s) q) ∙ e in
     let z : ◌≡◌ {A = ℕ} 0 1 = cc in
     omega arith
 
@@ -174,30 +170,110 @@ left_step g i h =
 left_none : {B : Type 0} (g : ℕ → List B) (i : ℕ) → 256 ≤ i → left g i ≡ []
 left_none g i h = gather_end g i (256 - i) (omega arith)
 
--- The block of an index was claimed or refused, and what is below it is left.
-module _ (n : ℕ) (v : Bytes) (e h q k f : ℕ) (first : f ≡ first_below (suc h) q) (s s' : Seen) (r : Bool)
+-- The block of a tree was claimed or refused, and what is below it is left.
+below_claims : Bytes → ℕ → ℕ → ℕ → ℕ → List Claim
+below_claims v e zero q k = []
+below_claims v e (suc h) q k = left (limb_claims (tree_claims v e h) v q k) 0
+
+tree_parts : (v : Bytes) (e h q k : ℕ) → must (ltb (first_below h q) e) ∷ block k ∷ below_claims v e h q k ≡ tree_claims v e h q k
+unfolding below_claims tree_claims
+tree_parts v e zero q k = refl
+tree_parts v e (suc h) q k = refl
+
+module _ (n : ℕ) (v : Bytes) (e h q k f : ℕ) (first : f ≡ first_below h q) (s s' : Seen) (r : Bool)
     (answer : outcome r s' ≡ claim n (must (ltb f e) ∷ block k ∷ []) s) where
-  below : List Claim
-  below = left (limb_claims (tree_claims v e h) v q k) 0
+  tree : claim n (must (ltb f e) ∷ block k ∷ below_claims v e h q k) s ≡ claim n (tree_claims v e h q k) s
+  tree = rw first (ap (λ (cs : List Claim). claim n cs s) (tree_parts v e h q k))
 
-  tree : claim n (must (ltb f e) ∷ block k ∷ below) s ≡ claim n (tree_claims v e (suc h) q k) s
-  unfolding below tree_claims
-  tree = ap (λ (f : ℕ). claim n (must (ltb f e) ∷ block k ∷ below) s) first
+  pub tree_refused : r ≡ false → none ≡ claim n (tree_claims v e h q k) s
+  tree_refused p = sym (refused n (must (ltb f e) ∷ block k ∷ []) (below_claims v e h q k) s s' r p answer) ∙ tree
 
-  pub tree_refused : r ≡ false → none ≡ claim n (tree_claims v e (suc h) q k) s
-  tree_refused p = sym (refused n (must (ltb f e) ∷ block k ∷ []) below s s' r p answer) ∙ tree
+  on : r ≡ true → claim n (below_claims v e h q k) s' ≡ claim n (tree_claims v e h q k) s
+  on p = sym (taken n (must (ltb f e) ∷ block k ∷ []) (below_claims v e h q k) s s' r p answer) ∙ tree
 
-  pub tree_on : r ≡ true → claim n (left (limb_claims (tree_claims v e h) v q k) 0) s' ≡ claim n (tree_claims v e (suc h) q k) s
-  unfolding below
-  tree_on p = sym (taken n (must (ltb f e) ∷ block k ∷ []) below s s' r p answer) ∙ tree
+  pub tree_flat : r ≡ true → h ≡ 0 → some s' ≡ claim n (tree_claims v e h q k) s
+  unfolding below_claims claim
+  tree_flat p z = ap (λ (h : ℕ). claim n (below_claims v e h q k) s') (sym z) ∙ on p
 
-pub first_index : (q : ℕ) → q * 256 ≡ first_below 1 q
+  pub tree_on : r ≡ true → (d : ℕ) → h ≡ suc d → claim n (left (limb_claims (tree_claims v e d) v q k) 0) s' ≡ claim n (tree_claims v e h q k) s
+  unfolding below_claims
+  tree_on p d z = ap (λ (h : ℕ). claim n (below_claims v e h q k) s') (sym z) ∙ on p
+
+pub flat_count : (v : Bytes) (h q k : ℕ) → h ≡ 0 → 1 ≡ length (nodes v h q k)
+unfolding nodes
+flat_count v h q k z = sym (ap (λ (h : ℕ). length (nodes v h q k)) z)
+
+-- The number of a part and the first file block below it, where the whole begins below 65,536: a shift by 8 bits for each height.
+number_low : (h q : ℕ) → q ≤ first_below h q
 unfolding first_below
-first_index q = refl
+number_low zero q = omega arith
+number_low (suc h) q = omega (arith, number_low h (q * 256))
 
-pub first_master : 0 ≡ first_below 2 0
+pub number_small : (h q : ℕ) → first_below h q < 65536 → q < 65536
+number_small h q l = omega (arith, number_low h q)
+
+pub key_first : (h : ℕ) → first_below h 0 ≡ 0
 unfolding first_below
-first_master = refl
+key_first zero = refl
+key_first (suc h) = key_first h
+
+pub part_first : (h q i : ℕ) → h < 2 → i < 256 → first_below (suc h) q < 65536 → first_below h (q * 256 + i) < 65536
+unfolding first_below
+part_first zero q i b il l = omega arith
+part_first (suc zero) q i b il l = omega arith
+part_first (suc (suc h)) q i b il l = absurd (omega arith)
+
+pub first_shift : (h q : ℕ) → h < 3 → first_below h q < 65536 → q * 2 ^ (8 * h) % 18446744073709551616 ≡ first_below h q
+unfolding first_below
+first_shift zero q b l = omega arith
+first_shift (suc zero) q b l = omega arith
+first_shift (suc (suc zero)) q b l = omega arith
+first_shift (suc (suc (suc h))) q b l = absurd (omega arith)
+
+-- How many blocks a tree has at most.
+unfoldable most : ℕ → ℕ
+most zero = 1
+most (suc h) = 1 + 256 * most h
+
+module _ (g : ℕ → List Node) (m : ℕ) (few : (i : ℕ) → length (g i) ≤ m) where
+  gather_most : (a c : ℕ) → length (gather g (run a c)) ≤ c * m
+  unfolding gather run
+  gather_most a zero = omega arith
+  gather_most a (suc c) = omega (arith, few a, gather_most (suc a) c, length-append (g a) (gather g (run (suc a) c)))
+
+module _ (tree : ℕ → ℕ → List Node) (v : Bytes) (q k i : ℕ) where
+  limb_none : pointer v k i ≡ 0 → limb tree v q k i ≡ []
+  unfolding limb
+  limb_none z = rw (eq-eqb (pointer v k i) 0 z, limb) refl
+
+  limb_some : (pointer v k i ≡ 0 → ⊥) → limb tree v q k i ≡ tree (q * 256 + i) (pointer v k i)
+  unfolding limb
+  limb_some z = rw (ne_eqb (pointer v k i) 0 z, limb) refl
+
+  limb_most : (m : ℕ) → length (tree (q * 256 + i) (pointer v k i)) ≤ m → length (limb tree v q k i) ≤ m
+  limb_most m few =
+      at_or_off (pointer v k i) 0 (λ z. omega (arith, ap length (limb_none z))) (λ z. omega (arith, ap length (limb_some z)))
+
+nodes_most : (v : Bytes) (h q k : ℕ) → length (nodes v h q k) ≤ most h
+unfolding nodes most
+nodes_most v zero q k = omega arith
+nodes_most v (suc h) q k =
+    omega (
+      arith,
+      gather_most (limb (λ r p. nodes v h r p) v q k) (most h)
+          (λ i. limb_most (λ r p. nodes v h r p) v q k i (most h) (nodes_most v h (q * 256 + i) (pointer v k i))) 0 256,
+    )
+
+pub nodes_few : (v : Bytes) (h q k : ℕ) → h < 3 → length (nodes v h q k) ≤ 65793
+unfolding most
+nodes_few v zero q k l = omega (arith, nodes_most v 0 q k)
+nodes_few v (suc zero) q k l = omega (arith, nodes_most v 1 q k)
+nodes_few v (suc (suc zero)) q k l = omega (arith, nodes_most v 2 q k)
+nodes_few v (suc (suc (suc h))) q k l = absurd (omega arith)
+
+pub took_few : (o : Answer ℕ) (m : ℕ) → (took_all o ≡ true → took_count o ≡ m) → m ≤ 65793 → took_count o ≤ 65793
+took_few None m f l = omega arith
+took_few (Some k) m f l = omega (arith, f refl)
 
 -- A loop over the pointers of an index, which began at what s₀ has: those from i on are left to claim, and `count` blocks were found.
 module _ (n : ℕ) (v : Bytes) (e h q k : ℕ) (s₀ : Seen) where
@@ -221,57 +297,38 @@ module _ (n : ℕ) (v : Bytes) (e h q k : ℕ) (s₀ : Seen) where
     below_done l =
         (sym (ap (λ (cs : List Claim). claim n cs s) (left_none claims_of i l)) ∙ below.0, omega (arith, below.1, ap length (left_none nodes_of i l)))
 
-    module _ (s' : Seen) (r : Bool) (more : i < 256) (answer : outcome r s' ≡ claim n (limb_claims (tree_claims v e h) v q k i) s) where
+    pub below_few : h < 2 → count ≤ 65793
+    below_few l = omega (arith, below.1, nodes_few v (suc h) q k (omega arith))
+
+    module _ (more : i < 256) (p : ℕ) (is_pointer : p ≡ pointer v k i) where
       step : claim n (claims_of i ++ left claims_of (i + 1)) s ≡ claim n (left claims_of 0) s₀
       step = ap (λ (cs : List Claim). claim n cs s) (sym (left_step claims_of i more)) ∙ below.0
 
-      pub below_refused : r ≡ false → none ≡ claim n (left (limb_claims (tree_claims v e h) v q k) 0) s₀
-      below_refused p = sym (refused n (claims_of i) (left claims_of (i + 1)) s s' r p answer) ∙ step
+      count_step : count + (length (nodes_of i) + length (left nodes_of (i + 1))) ≡ length (nodes v (suc h) q k)
+      count_step = omega (arith, below.1, ap length (left_step nodes_of i more) ∙ length-append (nodes_of i) (left nodes_of (i + 1)))
 
-      pub below_on : r ≡ true → (x : ℕ) → x ≡ length (limb (nodes v h) v q k i) → Below s' (i + 1) (count + x)
-      below_on p x z =
-          let more-nodes = ap length (left_step nodes_of i more) ∙ length-append (nodes_of i) (left nodes_of (i + 1)) in
-          (sym (taken n (claims_of i) (left claims_of (i + 1)) s s' r p answer) ∙ step, omega (arith, below.1, more-nodes, z))
+      pub below_over : p ≡ 0 → Below s (i + 1) count
+      below_over z =
+          let hole = sym is_pointer ∙ z in
+          let no_claim : claims_of i ≡ [] = limb_hole (tree_claims v e h) v q k i hole in
+          (rw no_claim at step, omega (arith, count_step, ap length (limb_none (nodes v h) v q k i hole)))
 
--- a tree of one block
-pub leaf_claims : (v : Bytes) (e q k : ℕ) → tree_claims v e 0 q k ≡ must (ltb q e) ∷ block k ∷ []
-unfolding tree_claims first_below
-leaf_claims v e q k = refl
+      module _ (held : p ≡ 0 → ⊥) (s' : Seen) (r : Bool) (answer : outcome r s' ≡ claim n (tree_claims v e h (q * 256 + i) p) s) where
+        there : pointer v k i ≡ 0 → ⊥
+        there z = held (is_pointer ∙ z)
 
-pub leaf_count : (v : Bytes) (q k : ℕ) → length (nodes v 0 q k) ≡ 1
-unfolding nodes
-leaf_count v q k = refl
+        limb_answer : outcome r s' ≡ claim n (claims_of i) s
+        limb_answer = answer ∙ rw is_pointer (ap (λ (cs : List Claim). claim n cs s) (sym (limb_held (tree_claims v e h) v q k i there)))
 
--- Below a pointer p: nothing where it is 0, else a data block below an index, and an index below a master.
-module _ (v : Bytes) (q k i p : ℕ) (is_pointer : p ≡ pointer v k i) where
-  module _ (hole : p ≡ 0) where
-    pub hole_claims : (tree : ℕ → ℕ → List Claim) → limb_claims tree v q k i ≡ []
-    hole_claims tree = limb_hole tree v q k i (sym is_pointer ∙ hole)
+        limb_nodes : nodes_of i ≡ nodes v h (q * 256 + i) p
+        limb_nodes = rw is_pointer (limb_some (nodes v h) v q k i there)
 
-    pub hole_nodes : (tree : ℕ → ℕ → List Node) → limb tree v q k i ≡ []
-    unfolding limb
-    hole_nodes tree = rw (eq-eqb (pointer v k i) 0 (sym is_pointer ∙ hole), limb)
+        pub below_refused : r ≡ false → none ≡ claim n (left (limb_claims (tree_claims v e h) v q k) 0) s₀
+        below_refused z = sym (refused n (claims_of i) (left claims_of (i + 1)) s s' r z limb_answer) ∙ step
 
-  module _ (held : p ≡ 0 → ⊥) where
-    pub held_claims : (tree : ℕ → ℕ → List Claim) → limb_claims tree v q k i ≡ tree (q * 256 + i) p
-    held_claims tree = rw is_pointer (limb_held tree v q k i (λ z. held (is_pointer ∙ z)))
-
-    pub held_nodes : (tree : ℕ → ℕ → List Node) → limb tree v q k i ≡ tree (q * 256 + i) p
-    unfolding limb
-    held_nodes tree = rw (is_pointer, ne_eqb (pointer v k i) 0 (λ z. held (is_pointer ∙ z)), limb)
-
-    pub data_below : (e : ℕ) → limb_claims (tree_claims v e 0) v q k i ≡ must (ltb (q * 256 + i) e) ∷ block p ∷ []
-    data_below e = held_claims (tree_claims v e 0) ∙ leaf_claims v e (q * 256 + i) p
-
-module _ (v : Bytes) (k i p : ℕ) (is_pointer : p ≡ pointer v k i) (held : p ≡ 0 → ⊥) where
-  number : 0 * 256 + i ≡ i
-  number = omega arith
-
-  pub index_below : (e : ℕ) → limb_claims (tree_claims v e 1) v 0 k i ≡ tree_claims v e 1 i p
-  index_below e = held_claims v 0 k i p is_pointer held (tree_claims v e 1) ∙ ap (λ (j : ℕ). tree_claims v e 1 j p) number
-
-  pub index_nodes : limb (nodes v 1) v 0 k i ≡ nodes v 1 i p
-  index_nodes = held_nodes v 0 k i p is_pointer held (nodes v 1) ∙ ap (λ (j : ℕ). nodes v 1 j p) number
+        pub below_on : r ≡ true → (x : ℕ) → x ≡ length (nodes v h (q * 256 + i) p) → Below s' (i + 1) (count + x)
+        below_on z x e =
+            (sym (taken n (claims_of i) (left claims_of (i + 1)) s s' r z limb_answer) ∙ step, omega (arith, count_step, e, ap length limb_nodes))
 
 -- The map: a block's bit and its mark must differ.
 apart : (p q : Bool) → beq p (not q) ≡ not (beq p q)
@@ -280,12 +337,29 @@ apart true false = refl
 apart false true = refl
 apart false false = refl
 
-module _ (v : Bytes) (s : Seen) (b : ℕ) (p q : Bool) (is-bit : p ≡ eqb (free map_place v b) 1) (is-mark : q ≡ s b) where
-  bit_test : beq (eqb (free map_place v b) 1) (not (s b)) ≡ not (beq p q)
-  bit_test = rw (← is-bit, ← is-mark) (apart p q)
+module _ (v : Bytes) (l : List ℕ) where
+  bit_test : (b : ℕ) → beq (eqb (free map_place v b) 1) (not (marks l b)) ≡ not (beq (eqb (free map_place v b) 1) (eqb (free 0 (view l) b) 1))
+  bit_test b = rw (marks_free l b) (apart (eqb (free map_place v b) 1) (eqb (free 0 (view l) b) 1))
 
-  pub map_on : beq p q ≡ false → map_right v s (b + 1) ≡ map_right v s b
-  map_on e = map_step v s b (bit_test ∙ ap not e)
+  all_right : (n : ℕ) → ((b : ℕ) → b < n → beq (eqb (free map_place v b) 1) (eqb (free 0 (view l) b) 1) ≡ false) → map_right v (marks l) n ≡ true
+  unfolding map_right
+  all_right zero f = refl
+  all_right (suc n) f =
+      let step = map_step v (marks l) n (bit_test n ∙ ap not (f n (omega arith))) in
+      let e : suc n ≡ n + 1 = omega arith in
+      ap (map_right v (marks l)) e ∙ step ∙ all_right n (λ b h. f b (omega arith))
 
-  pub map_off : (n : ℕ) → b < n → beq p q ≡ true → false ≡ map_right v s n
-  map_off n l e = sym (map_wrong v s b n l (bit_test ∙ ap not e))
+  in_range : (n b : ℕ) → b < n → get_or (range_with_len 0 n) b 0 ≡ b
+  in_range n b m = omega (arith, get_or-range_with_len 0 n b 0 m)
+
+  -- the answer of a look at each of the first n blocks
+  pub map_looked : (n : ℕ) (r : Bool)
+      → MatchBool r
+      (AllWithin (λ (b : ℕ). beq (eqb (free map_place v b) 1) (eqb (free 0 (view l) b) 1) ≡ false) (range_with_len 0 n) 0 (length (range_with_len 0 n)))
+      ((k : ℕ) × (k < length (range_with_len 0 n))
+      × HoldsAt (λ (b : ℕ). beq (eqb (free map_place v b) 1) (eqb (free 0 (view l) b) 1) ≡ true) (range_with_len 0 n) k)
+      → r ≡ map_right v (marks l) n
+  map_looked n true h = sym (all_right n (λ b m. rw (in_range n b m) at (h b 0 (omega arith) (omega (arith, length-range_with_len 0 n)))))
+  map_looked n false h =
+      let m : h.0 < n = omega (arith, h.1, length-range_with_len 0 n) in
+      sym (map_wrong v (marks l) h.0 n m (bit_test h.0 ∙ ap not (rw (in_range n h.0 m) at (h.2 0))))

@@ -7,7 +7,7 @@ ghost use Rattle.model.specs.Refusals.{refusal_number};
 ghost use Rattle.model.specs.Kinds.{kind_number, key_of};
 
 // Why a call is refused. Document 01, "Refusal numbers"; $4B stands there twice and is one case.
-#[derive(Clone, Copy)]
+#[derive(Clone, Copy, Debug, PartialEq, Eq)]
 pub enum Refusal {
     NotProdos,
     NotSound,
@@ -55,17 +55,10 @@ pub struct Entry {
 }
 
 // Where an entry stands: a block, and a slot from 1 to 13.
-#[derive(Clone, Copy)]
+#[derive(Clone, Copy, PartialEq)]
 pub struct Place {
     pub block: u16,
     pub slot: u8,
-}
-
-// What a search in a directory finds.
-#[derive(Clone, Copy)]
-pub enum Found {
-    At(Place, Entry),
-    Missing,
 }
 
 // What get info tells: of the volume, kind is $F.
@@ -81,65 +74,48 @@ pub struct Info {
     pub modified: Stamp,
 }
 
-// The answer of a call that tells nothing but whether it was done.
+// What space tells: the blocks of the volume, and how many of them are free.
 #[derive(Clone, Copy)]
-pub enum Answer {
-    Done,
-    Refused(Refusal),
-}
-
-// The answer of read and write: how many bytes were transferred.
-#[derive(Clone, Copy)]
-pub enum Transfer {
-    Moved(usize),
-    Refused(Refusal),
-}
-
-// The answer of get info.
-#[derive(Clone, Copy)]
-pub enum InfoAnswer {
-    Told(Info),
-    Refused(Refusal),
-}
-
-// The answer of space.
-#[derive(Clone, Copy)]
-pub enum SpaceAnswer {
-    Blocks { total: u16, free: u16 },
-    Refused(Refusal),
+pub struct Space {
+    pub total: u16,
+    pub free: u16,
 }
 
 // The number document 01 gives a refusal.
-pub fn refusal_number(r: Refusal) -> u8
-    ensures { result ≡ refusal_number r }
-{
-    match r {
-        Refusal::NotProdos => 0x52,
-        Refusal::NotSound => 0x5A,
-        Refusal::BadPath => 0x40,
-        Refusal::BadKind => 0x4B,
-        Refusal::BadType => 0x53,
-        Refusal::NoVolume => 0x45,
-        Refusal::NoDirectory => 0x44,
-        Refusal::NotFound => 0x46,
-        Refusal::Duplicate => 0x47,
-        Refusal::Locked => 0x4E,
-        Refusal::BadPosition => 0x4D,
-        Refusal::EndOfFile => 0x4C,
-        Refusal::DirectoryFull => 0x49,
-        Refusal::NoRoom => 0x48,
+impl From<Refusal> for u8 {
+    ghost from_gives = { λ r n. n ≡ refusal_number r };
+
+    fn from(r: Refusal) -> u8 {
+        match r {
+            Refusal::NotProdos => 0x52,
+            Refusal::NotSound => 0x5A,
+            Refusal::BadPath => 0x40,
+            Refusal::BadKind => 0x4B,
+            Refusal::BadType => 0x53,
+            Refusal::NoVolume => 0x45,
+            Refusal::NoDirectory => 0x44,
+            Refusal::NotFound => 0x46,
+            Refusal::Duplicate => 0x47,
+            Refusal::Locked => 0x4E,
+            Refusal::BadPosition => 0x4D,
+            Refusal::EndOfFile => 0x4C,
+            Refusal::DirectoryFull => 0x49,
+            Refusal::NoRoom => 0x48,
+        }
     }
 }
 
 // The number of a kind, as the high half of an entry's first byte has it.
-pub fn kind_number(k: Kind) -> u8
-    ensures { result ≡ kind_number k }
-{
-    match k {
-        Kind::Seedling(_) => 1,
-        Kind::Sapling(_) => 2,
-        Kind::Tree(_) => 3,
-        Kind::Directory(_) => 13,
+impl From<Kind> for u8 {
+    ghost from_gives = { λ k n. n ≡ kind_number k };
+
+    fn from(k: Kind) -> u8 {
+        match k {
+            Kind::Seedling(_) => 1,
+            Kind::Sapling(_) => 2,
+            Kind::Tree(_) => 3,
+            Kind::Directory(_) => 13,
+        }
     }
 }
 
@@ -148,9 +124,6 @@ pub fn key_of(k: Kind) -> u16
     ensures { result ≡ key_of k }
 {
     match k {
-        Kind::Seedling(b) => b,
-        Kind::Sapling(b) => b,
-        Kind::Tree(b) => b,
-        Kind::Directory(b) => b,
+        Kind::Seedling(b) | Kind::Sapling(b) | Kind::Tree(b) | Kind::Directory(b) => b,
     }
 }

@@ -1,24 +1,30 @@
 -- A slot or a name that is lent as a part is tested as it is where it stands in the whole. Assumes nothing.
-use mathlib.Core.Path.{◌≡◌, refl, ap, ◌∙◌}
+use mathlib.Core.Path.{◌≡◌, refl, sym, ap, ◌∙◌}
 use mathlib.Core.Bool.{Bool, true, false}
 use mathlib.Core.List.{List}
 use Prim.Native.Nat.{ℕ, zero, suc, ◌+◌, ◌-◌, ◌≤◌, ◌<◌}
 use lib.Dec.{eqb}
-use lib.ListN.{length, take, drop, length-drop}
+use lib.ListN.{length, get_or, take, drop, length-drop}
 use lib.Seq.{get_or-take, get_or-drop, length-take-le}
 use native.Mathlib.Omega.{arith}
 use borrow.Author.Tests.{eqb-true}
 use Rattle.model.specs.Bytes.{Bytes, view, equal_bytes, ◌and◌, within}
 use Rattle.model.specs.Names.{capital, capitals, name_byte, name_bytes, proper_name, name_size, Part, part, capital_name, same_name, alike}
+use Rattle.std.specs.Bool.{MatchBool}
+use Rattle.model.proofs.ByteLaws.{equal_all, equal_not}
 use Rattle.names.specs.Steps.{alike_names}
+use Rattle.names.proofs.Laws.{bytes_each, bytes_not}
 
 -- the k bytes of f from a on are those of g from b on
 abbrev pub SameRun : ℕ → Bytes → ℕ → Bytes → ℕ → Type 0
 SameRun k f a g b = (i : ℕ) → i < k → f (a + i) ≡ g (b + i)
 
 -- what is read of a part that was lent
+part_byte : (xs : List ℕ) (a k i : ℕ) → i < k → get_or (take k (drop a xs)) i 0 ≡ get_or xs (a + i) 0
+part_byte xs a k i l = get_or-take k (drop a xs) i 0 l ∙ get_or-drop a xs i 0
+
 pub part_run : (xs : List ℕ) (a k : ℕ) → SameRun k (view (take k (drop a xs))) 0 (view xs) a
-part_run xs a k i l = let e : 0 + i ≡ i = omega arith in rw e (get_or-take k (drop a xs) i 0 l ∙ get_or-drop a xs i 0)
+part_run xs a k i l = let e : 0 + i ≡ i = omega arith in rw e (part_byte xs a k i l)
 
 pub drop_run : (xs : List ℕ) (a k : ℕ) → SameRun k (view (drop a xs)) 0 (view xs) a
 drop_run xs a k i l = let e : 0 + i ≡ i = omega arith in rw e (get_or-drop a xs i 0)
@@ -74,6 +80,22 @@ pub proper_run : (f g : Bytes) (a b k : ℕ) → SameRun k f a g b → proper_na
 unfolding proper_name within ◌and◌
 proper_run f g a b zero h = refl
 proper_run f g a b (suc k) h = rw (run_here f g a b k h, bytes_run f g a b (suc k) h)
+
+-- What a look at each byte of a part, or of two parts of one size, has found is the test of the run in the whole.
+module _ (xs : List ℕ) (a k : ℕ) where
+  pub bytes_decided : (r : Bool)
+      → MatchBool r ((i : ℕ) → i < k → true ≡ name_byte (get_or (take k (drop a xs)) i 0)) ((i : ℕ) × (i < k) × (false ≡ name_byte (get_or (take k (drop a xs)) i 0)))
+      → r ≡ name_bytes (view xs) a k
+  bytes_decided true h = sym (bytes_each (view xs) a k (λ i l. h i l ∙ ap name_byte (part_byte xs a k i l)))
+  bytes_decided false h = sym (bytes_not (view xs) a k h.0 h.1 (h.2 ∙ ap name_byte (part_byte xs a k h.0 h.1)))
+
+  pub capitals_decided : (ys : List ℕ) (b : ℕ) (r : Bool)
+      → MatchBool r ((i : ℕ) → i < k → get_or (take k (drop a xs)) i 0 ≡ capital (get_or (take k (drop b ys)) i 0)) ((i : ℕ) × (i < k) × (get_or (take k (drop a xs)) i 0 ≡ capital (get_or (take k (drop b ys)) i 0) → ⊥))
+      → r ≡ equal_bytes (view xs) a (capitals (view ys)) b k
+  capitals_decided ys b true h =
+      sym (equal_all (view xs) a (capitals (view ys)) b k (λ i l. sym (part_byte xs a k i l) ∙ h i l ∙ ap capital (part_byte ys b k i l)))
+  capitals_decided ys b false h =
+      sym (equal_not (view xs) a (capitals (view ys)) b k h.0 h.1 (λ e. h.2 (part_byte xs a k h.0 h.1 ∙ e ∙ ap capital (sym (part_byte ys b k h.0 h.1)))))
 
 -- a name of k bytes, which stands from s on in the path p
 module _ (f p : Bytes) (s k : ℕ) (lent : SameRun k f 0 p s) where

@@ -33,42 +33,23 @@ pub enum Step {
     Bad,
 }
 
-fn wide(c: u8) -> usize
-    ensures { result ≡ c }
-{
-    c as usize
-}
-
 // Small letters are read as capitals.
 pub fn capital_of(c: u8) -> u8
     ensures { result ≡ capital c }
 {
-    match c {
-        b'a'..=b'z' => c - 32,
-        _ => c,
-    }
+    c.to_ascii_uppercase()
 }
 
 pub fn is_letter(c: u8) -> bool
     ensures { result ≡ letter c }
 {
-    match capital_of(c) {
-        b'A'..=b'Z' => true,
-        _ => false,
-    }
+    c.is_ascii_alphabetic()
 }
 
 pub fn is_name_byte(c: u8) -> bool
     ensures { result ≡ name_byte c }
 {
-    if is_letter(c) {
-        return true;
-    }
-    match c {
-        b'0'..=b'9' => true,
-        b'.' => true,
-        _ => false,
-    }
+    is_letter(c) || c.is_ascii_digit() || c == b'.'
 }
 
 // Every byte from start up to end is a letter, a digit or a dot.
@@ -76,15 +57,7 @@ fn are_name_bytes(s: &[u8], start: usize, end: usize) -> bool
     requires { (start ≤ end) × (end ≤ length s.now) }
     ensures { result ≡ name_bytes (view s.now) start (end - start) }
 {
-    let mut i = start;
-    while i < end {
-        if is_name_byte(s[i]) {
-            i += 1;
-        } else {
-            return false;
-        }
-    }
-    true
+    s[start..end].iter().all(|c| is_name_byte(*c))
 }
 
 // The size is tested first, so that no more bytes are looked at than a name can have.
@@ -93,17 +66,7 @@ pub fn is_proper_between(s: &[u8], start: usize, end: usize) -> bool
     ensures { result ≡ proper_name (view s.now) start (end - start) }
 {
     let size = end - start;
-    if size < 1 {
-        return false;
-    }
-    if NAME_MOST < size {
-        return false;
-    }
-    if is_letter(s[start]) {
-        are_name_bytes(s, start, end)
-    } else {
-        false
-    }
+    1 <= size && size <= NAME_MOST && is_letter(s[start]) && are_name_bytes(s, start, end)
 }
 
 pub fn is_proper_name(name: &[u8]) -> bool
@@ -117,15 +80,9 @@ fn are_capitals(slot: &[u8], s: &[u8], start: usize, n: usize) -> bool
     requires { (1 + n ≤ length slot.now) × (start + n ≤ length s.now) }
     ensures { result ≡ equal_bytes (view slot.now) 1 (capitals (view s.now)) start n }
 {
-    let mut i: usize = 0;
-    while i < n {
-        if slot[1 + i] == capital_of(s[start + i]) {
-            i += 1;
-        } else {
-            return false;
-        }
-    }
-    true
+    let stored = &slot[1..1 + n];
+    let named = &s[start..start + n];
+    stored.iter().zip(named).all(|(a, b)| *a == capital_of(*b))
 }
 
 // The name stored in a slot is proper and in capitals.
@@ -133,12 +90,8 @@ pub fn is_capital_name(slot: &[u8]) -> bool
     requires { length slot.now ≡ 39 }
     ensures { result ≡ capital_name (view slot.now) 0 }
 {
-    let n = wide(slot[0] % 16);
-    if is_proper_between(slot, 1, 1 + n) {
-        are_capitals(slot, slot, 1, n)
-    } else {
-        false
-    }
+    let n = usize::from(slot[0] % 16);
+    is_proper_between(slot, 1, 1 + n) && are_capitals(slot, slot, 1, n)
 }
 
 // The name stored in a slot is the caller's, read as capitals.
@@ -147,11 +100,7 @@ pub fn same_name(slot: &[u8], name: &[u8]) -> bool
     ensures { result ≡ same_name (view slot.now) 0 (view name.now) (part 0 (length name.now)) }
 {
     let n = name.len();
-    if wide(slot[0] % 16) == n {
-        are_capitals(slot, name, 0, n)
-    } else {
-        false
-    }
+    usize::from(slot[0] % 16) == n && are_capitals(slot, name, 0, n)
 }
 
 // Two slots store the same name.
@@ -160,11 +109,7 @@ pub fn alike(a: &[u8], b: &[u8]) -> bool
     ensures { result ≡ alike_names (view a.now) (view b.now) }
 {
     let n = a[0] % 16;
-    if n == b[0] % 16 {
-        store::same_bytes(a, 1, b, 1, wide(n))
-    } else {
-        false
-    }
+    n == b[0] % 16 && store::same_bytes(a, 1, b, 1, usize::from(n))
 }
 
 impl Cursor {
@@ -177,12 +122,11 @@ impl Cursor {
     pub fn step(self, path: &[u8]) -> Step
         ensures { result ≡ step_at (view path.now) (length path.now) self.at }
     {
-        let at = self.at;
-        if path.len() <= at {
+        if path.len() <= self.at {
             return Step::End;
         }
-        if path[at] == SLASH {
-            let start = at + 1;
+        if path[self.at] == SLASH {
+            let start = self.at + 1;
             let end = store::place_of(path, start, SLASH);
             if is_proper_between(path, start, end) {
                 return Step::Name {
@@ -200,28 +144,15 @@ impl Cursor {
 pub fn is_proper_path(path: &[u8]) -> bool
     ensures { result ≡ proper_path (view path.now) (length path.now) }
 {
-    if path.len() < 1 {
+    if path.is_empty() || PATH_MOST < path.len() {
         return false;
     }
-    if PATH_MOST < path.len() {
-        return false;
-    }
-    let mut c = Cursor::new();
+    let mut cursor = Cursor::new();
     loop {
-        match c.step(path) {
-            Step::Name {
-                start: _,
-                end: _,
-                next,
-            } => {
-                c = next;
-            }
-            Step::End => {
-                return true;
-            }
-            Step::Bad => {
-                return false;
-            }
+        match cursor.step(path) {
+            Step::Name { next, .. } => cursor = next,
+            Step::End => return true,
+            Step::Bad => return false,
         }
     }
 }
@@ -230,15 +161,10 @@ pub fn is_proper_path(path: &[u8]) -> bool
 fn last_start(path: &[u8]) -> usize
     ensures { (result ≡ last_start (view path.now) (length path.now)) × (result ≤ length path.now) }
 {
-    let mut start = path.len();
-    while 0 < start {
-        let before = start - 1;
-        if path[before] == SLASH {
-            return start;
-        }
-        start = before;
+    match path.iter().rposition(|c| *c == SLASH) {
+        Some(at) => at + 1,
+        None => 0,
     }
-    start
 }
 
 // The last name, as a part of the caller's path.

@@ -1,4 +1,5 @@
 -- What the branches of the code answer: the rows $52 and $5A one by one, and what a path opens.
+use Rattle.std.specs.Prelude.{Result, Ok, Err}
 use Prim.Native.Nat.{ℕ, ◌/◌, ◌%◌, ◌≤◌}
 use mathlib.Core.Path.{◌≡◌, refl, sym, ap, ◌∙◌}
 use mathlib.Core.Bool.{Bool, true, false, false≢true}
@@ -17,28 +18,26 @@ use Rattle.directory.specs.Lookup.{home_of, looked_as}
 use Rattle.directory.specs.declared.Looked.{Looked}
 use Rattle.directory.specs.declared.Looked.TheVariants as looked
 use Rattle.opening.specs.Opened.{volume_in, opened_at, opened_on, opened_by}
-use Rattle.opening.specs.declared.Volume.{Volume}
-use Rattle.opening.specs.declared.Volume.TheVariants as volumes
 use Rattle.opening.specs.declared.Opened.{Opened}
 use Rattle.opening.specs.declared.Opened.TheVariants as opened
 
 -- the rows $52 and $5A one by one
 module _ (len : ℕ) (v : Bytes) where
-  abbrev chosen : Bool → Bool → Volume
-  chosen a b = elim a [ true ↦ elim b [ true ↦ volumes.Sound (total len) | false ↦ volumes.Refused NotSound ] | false ↦ volumes.Refused NotProdos ]
+  abbrev chosen : Bool → Bool → Result ℕ Refusal
+  chosen a b = elim a [ true ↦ elim b [ true ↦ Ok (total len) | false ↦ Err NotSound ] | false ↦ Err NotProdos ]
 
   volume_as : (a b : Bool) → whole_blocks len and prodos (total len) v ≡ a → sound (total len) v ≡ b → volume_in len v ≡ chosen a b
   unfolding volume_in
   volume_as a b e f = ap (λ x. chosen x (sound (total len) v)) e ∙ ap (chosen a) f
 
-  pub volume_unfit : (len % 512 ≡ 0 → 16 ≤ len / 512 → len / 512 ≤ 65535 → ⊥) → volume_in len v ≡ volumes.Refused NotProdos
+  pub volume_unfit : (len % 512 ≡ 0 → 16 ≤ len / 512 → len / 512 ≤ 65535 → ⊥) → volume_in len v ≡ Err NotProdos
   unfolding whole_blocks within
   volume_unfit h = volume_as false (sound (total len) v) (and_false (whole_blocks len) (prodos (total len) v) (λ w p.
       let t = (and_true (eqb (len % 512) 0) (within 16 65535 (len / 512))).0 w in
       let u = (and_true (leb 16 (len / 512)) (leb (len / 512) 65535)).0 t.1 in
       h (eqb-true (len % 512) 0 t.0) (leb-true 16 (len / 512) u.0) (leb-true (len / 512) 65535 u.1))) refl
 
-  pub volume_other : prodos (total len) v ≡ false → volume_in len v ≡ volumes.Refused NotProdos
+  pub volume_other : prodos (total len) v ≡ false → volume_in len v ≡ Err NotProdos
   volume_other e =
       volume_as false (sound (total len) v) (and_false (whole_blocks len) (prodos (total len) v) (λ w p. false≢true (sym e ∙ p))) refl
 
@@ -48,47 +47,30 @@ module _ (len : ℕ) (v : Bytes) where
       (and_true (eqb (len % 512) 0) (within 16 65535 (len / 512))).1
       (eq-eqb (len % 512) 0 r, (and_true (leb 16 (len / 512)) (leb (len / 512) 65535)).1 (le-leb 16 (len / 512) l, le-leb (len / 512) 65535 m))
 
-  pub volume_bad : whole_blocks len ≡ true → prodos (total len) v ≡ true → sound (total len) v ≡ false → volume_in len v ≡ volumes.Refused NotSound
+  pub volume_bad : whole_blocks len ≡ true → prodos (total len) v ≡ true → sound (total len) v ≡ false → volume_in len v ≡ Err NotSound
   volume_bad w p s = volume_as true false ((and_true (whole_blocks len) (prodos (total len) v)).1 (w, p)) s
 
-  pub volume_good : whole_blocks len ≡ true → prodos (total len) v ≡ true → sound (total len) v ≡ true → volume_in len v ≡ volumes.Sound (total len)
+  pub volume_good : whole_blocks len ≡ true → prodos (total len) v ≡ true → sound (total len) v ≡ true → volume_in len v ≡ Ok (total len)
   volume_good w p s = volume_as true true ((and_true (whole_blocks len) (prodos (total len) v)).1 (w, p)) s
 
--- what a path opens, by what the image is
-module _ (len : ℕ) (v p : Bytes) (k : ℕ) where
-  pub opened_refused : (r : Refusal) → volume_in len v ≡ volumes.Refused r → opened_by len v p k ≡ opened.Refused r
-  unfolding opened_on
-  opened_refused r e = ap (λ o. opened_on o v p k) e
-
-  abbrev passed : ℕ → Bool → Opened
-  passed n b = elim b [ true ↦ opened_at n v (target v p k) | false ↦ opened.Refused BadPath ]
-
-  opened_on_law : (n : ℕ) (b : Bool) → volume_in len v ≡ volumes.Sound n → proper_path p k ≡ b → opened_by len v p k ≡ passed n b
-  unfolding opened_on
-  opened_on_law n b e q = ap (λ o. opened_on o v p k) e ∙ ap (passed n) q
-
-  pub opened_bad : (n : ℕ) → volume_in len v ≡ volumes.Sound n → proper_path p k ≡ false → opened_by len v p k ≡ opened.Refused BadPath
-  opened_bad n e q = opened_on_law n false e q
-
-  pub opened_good : (n : ℕ) → volume_in len v ≡ volumes.Sound n → proper_path p k ≡ true → opened_by len v p k ≡ opened_at n v (target v p k)
-  opened_good n e q = opened_on_law n true e q
-
 -- what the code makes of a lookup's answer
-abbrev pub opened_from : ℕ → Looked → Opened
-opened_from n looked.NoVolume = opened.Refused NoVolume
-opened_from n looked.NoDirectory = opened.Refused NoDirectory
-opened_from n (looked.Missing h) = opened.Refused NotFound
-opened_from n (looked.There h s x) = opened.Entry n h s x
-opened_from n looked.Volume = opened.Volume n
+abbrev pub opened_from : ℕ → Result Looked Refusal → Result Opened Refusal
+opened_from n (Err r) = Err r
+opened_from n (Ok (looked.Missing h)) = Err NotFound
+opened_from n (Ok (looked.There h s x)) = Ok (opened.Entry n h s x)
+opened_from n (Ok looked.Volume) = Ok (opened.Volume n)
 
-pub opened_from_law : (n : ℕ) (v : Bytes) (t : Target) → opened_from n (looked_as v t) ≡ opened_at n v t
+opened_from_law : (n : ℕ) (v : Bytes) (t : Target) → opened_from n (looked_as v t) ≡ opened_at n v t
 unfolding opened_at
 opened_from_law n v no_volume = refl
 opened_from_law n v no_directory = refl
 opened_from_law n v (missing d) = refl
 opened_from_law n v (there d s) = go (eqb s volume)
   where
-    go : (b : Bool) → opened_from n (elim b as (λ _. Looked) [ true ↦ looked.Volume | false ↦ looked.There (home_of v d) (place_of s) (entry_of v (at s)) ])
-        ≡ elim b as (λ _. Opened) [ true ↦ opened.Volume n | false ↦ opened.Entry n (home_of v d) (place_of s) (entry_of v (at s)) ]
+    go : (b : Bool) → opened_from n (elim b as (λ _. Result Looked Refusal) [ true ↦ Ok looked.Volume | false ↦ Ok (looked.There (home_of v d) (place_of s) (entry_of v (at s))) ])
+        ≡ elim b as (λ _. Result Opened Refusal) [ true ↦ Ok (opened.Volume n) | false ↦ Ok (opened.Entry n (home_of v d) (place_of s) (entry_of v (at s))) ]
     go true = refl
     go false = refl
+
+pub opened_led : (n : ℕ) (v : Bytes) (t : Target) {r : Result Looked Refusal} → r ≡ looked_as v t → opened_from n r ≡ opened_at n v t
+opened_led n v t e = ap (opened_from n) e ∙ opened_from_law n v t

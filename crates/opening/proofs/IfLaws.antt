@@ -1,4 +1,5 @@
 -- What a path opens where the other arguments are fit: by the branches of the code, and as rows of the table.
+use Rattle.std.specs.Prelude.{Result, Ok, Err}
 use Prim.Native.Nat.{ℕ}
 use mathlib.Core.Path.{◌≡◌, refl, sym, ap, ◌∙◌}
 use mathlib.Core.Bool.{Bool, true, false, not}
@@ -12,8 +13,6 @@ use Rattle.model.specs.declared.Refusal.TheVariants.{BadPath}
 use Rattle.model.proofs.RefusalLaws.{first_applies, first_passes}
 use Rattle.claims.proofs.TestLaws.{decide}
 use Rattle.opening.specs.Opened.{volume_in, opened_at, opened_on, opened_by, opened_on_if, opened_if}
-use Rattle.opening.specs.declared.Volume.{Volume}
-use Rattle.opening.specs.declared.Volume.TheVariants as volumes
 use Rattle.opening.specs.declared.Opened.{Opened}
 use Rattle.opening.specs.declared.Opened.TheVariants as opened
 use Rattle.opening.proofs.VolumeLaws.{volume_or, volume_first}
@@ -36,14 +35,14 @@ pub rows_apart : (r s : Row) (a b : Bool) (n : ℕ) (rs : List Row)
 rows_apart r s a b n rs = first_under r _ _ (first_under s _ _ (two_rows a b n rs))
 
 module _ (fit : Bool) (r : Refusal) (len : ℕ) (v p : Bytes) (k : ℕ) where
-  abbrev chosen : ℕ → Bool → Bool → Opened
-  chosen n a b = elim a [ true ↦ elim b [ true ↦ opened_at n v (target v p k) | false ↦ opened.Refused r ] | false ↦ opened.Refused BadPath ]
+  abbrev chosen : ℕ → Bool → Bool → Result Opened Refusal
+  chosen n a b = elim a [ true ↦ elim b [ true ↦ opened_at n v (target v p k) | false ↦ Err r ] | false ↦ Err BadPath ]
 
-  pub if_refused : (why : Refusal) → volume_in len v ≡ volumes.Refused why → opened_if fit r len v p k ≡ opened.Refused why
+  pub if_refused : (why : Refusal) → volume_in len v ≡ Err why → opened_if fit r len v p k ≡ Err why
   unfolding opened_on_if
   if_refused why e = ap (λ o. opened_on_if fit r o v p k) e
 
-  pub if_on : (n : ℕ) (a b : Bool) → volume_in len v ≡ volumes.Sound n → proper_path p k ≡ a → fit ≡ b → opened_if fit r len v p k ≡ chosen n a b
+  pub if_on : (n : ℕ) (a b : Bool) → volume_in len v ≡ Ok n → proper_path p k ≡ a → fit ≡ b → opened_if fit r len v p k ≡ chosen n a b
   unfolding opened_on_if
   if_on n a b e f g = ap (λ o. opened_on_if fit r o v p k) e ∙ ap (λ x. chosen n x fit) f ∙ ap (chosen n a) g
 
@@ -77,26 +76,26 @@ module _ (fit : Bool) (r : Refusal) (len : ℕ) (v p : Bytes) (k : ℕ) where
           ∙ first_passes (row (not fit) (refusal_number r)) led (ap not g)
           ∙ target_first n v (target v p k) rest
 
-      after : (o : Volume) → volume_or o (first (bad_path p k ∷ rows)) ≡ opened_or (opened_on_if fit r o v p k) (first rest)
-      after (volumes.Sound n) = path n (proper_path p k) fit refl refl
-      after (volumes.Refused w) = refl
+      after : (o : Result ℕ Refusal) → volume_or o (first (bad_path p k ∷ rows)) ≡ opened_or (opened_on_if fit r o v p k) (first rest)
+      after (Ok n) = path n (proper_path p k) fit refl refl
+      after (Err w) = refl
 
-  same_open : (o : Volume) → opened_on_if true r o v p k ≡ opened_on o v p k
+  pub same_open : (o : Result ℕ Refusal) → opened_on_if true r o v p k ≡ opened_on o v p k
   unfolding opened_on_if opened_on
-  same_open (volumes.Sound n) = refl
-  same_open (volumes.Refused w) = refl
+  same_open (Ok n) = refl
+  same_open (Err w) = refl
 
-  unfit : (o : Volume) → (w : Refusal) × (opened_on_if false r o v p k ≡ opened.Refused w)
+  unfit : (o : Result ℕ Refusal) → (w : Refusal) × (opened_on_if false r o v p k ≡ Err w)
   unfolding opened_on_if
-  unfit (volumes.Refused w) = (w, refl)
-  unfit (volumes.Sound n) = go (proper_path p k)
+  unfit (Err w) = (w, refl)
+  unfit (Ok n) = go (proper_path p k)
     where
-      go : (a : Bool) → (w : Refusal) × (elim a as (λ _. Opened) [ true ↦ opened.Refused r | false ↦ opened.Refused BadPath ] ≡ opened.Refused w)
+      go : (a : Bool) → (w : Refusal) × (elim a as (λ _. Result Opened Refusal) [ true ↦ Err r | false ↦ Err BadPath ] ≡ Err w)
       go true = (r, refl)
       go false = (BadPath, refl)
 
   -- what was opened was fit
-  pub if_open : (o : Opened) → opened_if fit r len v p k ≡ o → ((w : Refusal) → o ≡ opened.Refused w → ⊥) → (fit ≡ true) × (opened_by len v p k ≡ o)
+  pub if_open : (o : Result Opened Refusal) → opened_if fit r len v p k ≡ o → ((w : Refusal) → o ≡ Err w → ⊥) → (fit ≡ true) × (opened_by len v p k ≡ o)
   if_open o q n =
       decide fit
       (λ e. (e, sym (same_open (volume_in len v)) ∙ ap (λ f. opened_on_if f r (volume_in len v) v p k) (sym e) ∙ q))

@@ -12,93 +12,60 @@ ghost use Rattle.opening.specs.Sorts.{height_of};
 use directory::{Home, Looked};
 use model::{Entry, Kind, Place, Refusal};
 
-// What an image is: a sound volume of so many blocks, or refused.
-#[derive(Clone, Copy)]
-pub enum Volume {
-    Sound(usize),
-    Refused(Refusal),
-}
-
-// What a path leads to, with the number of blocks of its volume and, of an entry, its directory; or why it leads nowhere.
+// What a path leads to, with the number of blocks of its volume and, of an entry, its directory.
 #[derive(Clone, Copy)]
 pub enum Opened {
     Volume(usize),
     Entry(usize, Home, Place, Entry),
-    Refused(Refusal),
 }
 
-// $52 and $5A: whether an image is a sound volume.
-pub fn volume_in(img: &[u8]) -> Volume
+// $52 and $5A: the number of blocks of an image that is a sound volume.
+pub fn volume_in(img: &[u8]) -> Result<usize, Refusal>
     ensures { result ≡ volume_in (length img.now) (view img.now) }
 {
     let size = img.len();
-    if size % 512 != 0 {
-        return Volume::Refused(Refusal::NotProdos);
-    }
     let n = size / 512;
-    if n < 16 {
-        return Volume::Refused(Refusal::NotProdos);
+    if size % 512 != 0 || n < 16 || 65535 < n || !checks::is_prodos(img, n) {
+        return Err(Refusal::NotProdos);
     }
-    if 65535 < n {
-        return Volume::Refused(Refusal::NotProdos);
+    if !sound::is_sound(img, n) {
+        return Err(Refusal::NotSound);
     }
-    if !checks::is_prodos(img, n) {
-        return Volume::Refused(Refusal::NotProdos);
-    }
-    if sound::is_sound(img, n) {
-        Volume::Sound(n)
-    } else {
-        Volume::Refused(Refusal::NotSound)
-    }
+    Ok(n)
 }
 
 // $45, $44 and $46: what a proper path leads to on a sound volume.
-pub fn opened_at(img: &[u8], n: usize, path: &[u8]) -> Opened
+pub fn opened_at(img: &[u8], n: usize, path: &[u8]) -> Result<Opened, Refusal>
     requires n_bound { (n ≤ 65535) × (length img.now ≡ n * 512) × (sound n (view img.now) ≡ true) }
     requires path_value { proper_path (view path.now) (length path.now) ≡ true }
     ensures { result ≡ opened_at n (view img.now) (target (view img.now) (view path.now) (length path.now)) }
 {
-    match directory::lookup(img, n, path) {
-        Looked::NoVolume => Opened::Refused(Refusal::NoVolume),
-        Looked::NoDirectory => Opened::Refused(Refusal::NoDirectory),
-        Looked::Missing(_) => Opened::Refused(Refusal::NotFound),
-        Looked::There(home, place, entry) => Opened::Entry(n, home, place, entry),
-        Looked::Volume => Opened::Volume(n),
-    }
-}
-
-// The refusals that every call with a path has, in their order, up to $46.
-pub fn opened_by(img: &[u8], path: &[u8]) -> Opened
-    ensures { result ≡ opened_by (length img.now) (view img.now) (view path.now) (length path.now) }
-{
-    match volume_in(img) {
-        Volume::Refused(why) => Opened::Refused(why),
-        Volume::Sound(n) => {
-            if names::is_proper_path(path) {
-                opened_at(img, n, path)
-            } else {
-                Opened::Refused(Refusal::BadPath)
-            }
-        }
+    match directory::lookup(img, n, path)? {
+        Looked::Missing(_) => Err(Refusal::NotFound),
+        Looked::There(home, place, entry) => Ok(Opened::Entry(n, home, place, entry)),
+        Looked::Volume => Ok(Opened::Volume(n)),
     }
 }
 
 // The rows up to $46, and one more behind $40: where `fit` fails, the call is refused for the reason given.
-pub fn opened_if(img: &[u8], path: &[u8], fit: bool, reason: Refusal) -> Opened
+pub fn opened_if(img: &[u8], path: &[u8], fit: bool, reason: Refusal) -> Result<Opened, Refusal>
     ensures { result ≡ opened_if fit reason (length img.now) (view img.now) (view path.now) (length path.now) }
 {
-    match volume_in(img) {
-        Volume::Refused(why) => Opened::Refused(why),
-        Volume::Sound(n) => {
-            if !names::is_proper_path(path) {
-                return Opened::Refused(Refusal::BadPath);
-            }
-            if !fit {
-                return Opened::Refused(reason);
-            }
-            opened_at(img, n, path)
-        }
+    let n = volume_in(img)?;
+    if !names::is_proper_path(path) {
+        return Err(Refusal::BadPath);
     }
+    if !fit {
+        return Err(reason);
+    }
+    opened_at(img, n, path)
+}
+
+// The refusals that every call with a path has, in their order, up to $46.
+pub fn opened_by(img: &[u8], path: &[u8]) -> Result<Opened, Refusal>
+    ensures { result ≡ opened_by (length img.now) (view img.now) (view path.now) (length path.now) }
+{
+    opened_if(img, path, true, Refusal::BadPath)
 }
 
 // The height of a data file; 3 for a directory.

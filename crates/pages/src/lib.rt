@@ -6,8 +6,6 @@ ghost use Rattle.model.specs.Bytes.{view};
 ghost use Rattle.model.specs.Catalog.{catalog};
 ghost use Rattle.ink.specs.Ink.{Shows};
 
-use opening::Volume;
-
 const MOST: usize = 65536;
 
 // The bytes of the text from an offset on, as many as the page takes.
@@ -18,10 +16,10 @@ pub fn catalog_page(img: &[u8], offset: usize, page: &mut [u8]) -> usize
         return listing::page_of_too_large(offset, page);
     }
     match opening::volume_in(img) {
-        Volume::Refused(why) => {
-            let number = model::refusal_number(why);
+        Err(why) => {
+            let number = u8::from(why);
             listing::page_of_refusal(number, offset, page)
         }
-        Volume::Sound(n) => listing::page_of_volume(img, n, offset, page),
+        Ok(n) => listing::page_of_volume(img, n, offset, page),
     }
 }

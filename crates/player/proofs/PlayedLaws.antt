@@ -17,12 +17,13 @@ use Rattle.script.specs.Fields.{Fields, end_at, Takes}
 use Rattle.replies.specs.Lines.{ok_line, bad_line}
 use Rattle.lines.specs.declared.Command.{Command}
 use Rattle.lines.specs.declared.Command.TheVariants as command
-use Rattle.lines.specs.declared.Said.{Said}
+use Rattle.std.specs.Prelude.{Option, Some, None}
+use Rattle.std.specs.Option.{is_some}
 use Rattle.lines.specs.Commands.{command_of, asked, held, unplaced, cut}
 use Rattle.lines.specs.Left.{Left}
 use Rattle.lines.specs.Left as left
 use Rattle.lines.proofs.PartLaws.{view_cut, view_zeros, part_as, front_back}
-use Rattle.player.specs.Played.{Rooms, Stage, After, refused, renewed, on_image, obeyed, answered, commanded, is_silent, ready, printed, page_of, played, played_from, played_all, staged, rooms, Holds, stage, Leaves, Renews}
+use Rattle.player.specs.Played.{Rooms, Stage, After, refused, renewed, on_image, obeyed, answered, commanded, is_silent, ready, printed, page_of, played, played_from, played_all, staged, rooms, Holds, stage, size_left, ink_left, Leaves, Renews}
 use Rattle.player.specs.declared.After.{After as Told}
 
 -- A line that prints nothing.
@@ -49,31 +50,39 @@ unfolding ready
 ready_empty used h = rw (lt-leb used 61440 h, ready)
 
 -- What a command leaves, by another name.
-pub leaves_as : {o u : After} {s : Sheet} {r : Told} {i b p : List ℕ} → o ≡ u → Leaves u s r i b p → Leaves o s r i b p
+pub leaves_as : {o u : After} {had : ℕ} {s : Sheet} {r : Option Told} {i b p : List ℕ} → o ≡ u → Leaves u had s r i b p → Leaves o had s r i b p
 leaves_as e l = rw e l
 
 -- A new image, as it was asked for.
-pub renewed_leaves : (image buffer page : List ℕ) (wanted size used : ℕ) {s : Sheet} {r : Told} {i p : List ℕ} → Renews (length image) wanted size (view image) s r i p
-    → Leaves (renewed (rooms image buffer page) wanted (stage size used image buffer page) (view buffer)) s r i buffer p
+pub renewed_leaves : (image buffer page : List ℕ) (wanted size used : ℕ) {s : Sheet} {r : Option Told} {i p : List ℕ} → Renews (length image) wanted size (view image) s r i p
+    → Leaves (renewed (rooms image buffer page) wanted (stage size used image buffer page) (view buffer)) size s r i buffer p
 unfolding renewed
 renewed_leaves image buffer page wanted size used {s} {r} {i} {p} h = go (leb wanted (length image)) h.size h.good h.image h.page
   where
-    go : (b : Bool) → r.size ≡ elim b [ true ↦ wanted | false ↦ size ] → r.good ≡ b → view i ≡ elim b [ true ↦ clear (view image) 0 wanted | false ↦ view image ]
-        → Prints (elim b [ true ↦ ok_line [] [] | false ↦ [] ]) s (sheet r.ink p)
+    go : (b : Bool) → size_left size r ≡ elim b [ true ↦ wanted | false ↦ size ] → is_some r ≡ b → view i ≡ elim b [ true ↦ clear (view image) 0 wanted | false ↦ view image ]
+        → Prints (elim b [ true ↦ ok_line [] [] | false ↦ [] ]) s (sheet (ink_left s r) p)
         → Leaves (elim b [
           | true ↦ record { size = wanted; image = clear (view image) 0 wanted; buffer = view buffer; good = true; text = ok_line [] [] }
           | false ↦ refused (stage size used image buffer page) (view buffer)
-        ]) s r i buffer p
+        ]) size s r i buffer p
     go true e g f k = record { size = e; good = g; image = f; buffer = refl; page = k }
     go false e g f k = record { size = e; good = g; image = f; buffer = refl; page = k }
 
+-- The answer of a command on an image of so many bytes.
+abbrev pub sized : ℕ → Option Ink → Option Told
+sized n (Some k) = Some (record { size = n; ink = k })
+sized n None = None
+
 -- A command on the image, which is lent as the first bytes of its room: what it does goes by the image's length and bytes, and ys come back for them.
 module _ (image : List ℕ) (size : ℕ) (fits : size ≤ length image) where
-  pub on_image_law : (does : ℕ → Bytes → Left) (used : ℕ) (buffer page ys : List ℕ) {s : Sheet} {r : Said} {i b p : List ℕ} → view i ≡ paste (view image) 0 size (view ys)
+  pub on_image_law : (does : ℕ → Bytes → Left) (used : ℕ) (buffer page ys : List ℕ) {s : Sheet} (r : Option Ink) {i b p : List ℕ} → view i ≡ paste (view image) 0 size (view ys)
       → left.Leaves (does (length (take (size - 0) (drop 0 image))) (view (take (size - 0) (drop 0 image)))) s r ys b p
-      → Leaves (on_image (stage size used image buffer page) (does size (cut (view image) 0 size))) s (record { size = size; ink = r.ink; good = r.good }) i b p
-  on_image_law does used buffer page ys {s} {r} {i} {b} {p} e l =
-      let m = part_as (λ v n. left.Leaves (does n v) s r ys b p) image 0 size size (omega arith) fits l in
+      → Leaves (on_image (stage size used image buffer page) (does size (cut (view image) 0 size))) size s (sized size r) i b p
+  on_image_law does used buffer page ys {s} (Some k) {i} {b} {p} e l =
+      let m = part_as (λ v n. left.Leaves (does n v) s (Some k) ys b p) image 0 size size (omega arith) fits l in
+      record { size = refl; good = m.good; image = e ∙ ap (paste (view image) 0 size) m.image; buffer = m.buffer; page = m.page }
+  on_image_law does used buffer page ys {s} None {i} {b} {p} e l =
+      let m = part_as (λ v n. left.Leaves (does n v) s None ys b p) image 0 size size (omega arith) fits l in
       record { size = refl; good = m.good; image = e ∙ ap (paste (view image) 0 size) m.image; buffer = m.buffer; page = m.page }
 
   -- what only looks gives the same bytes back
@@ -84,8 +93,8 @@ module _ (image : List ℕ) (size : ℕ) (fits : size ≤ length image) where
   changed_back ys e = let d : size - 0 ≡ size = omega arith in front_back image ys size fits (e ∙ length_part image 0 (size - 0) (omega arith) ∙ d)
 
 -- A command by its name.
-pub obeyed_by : (r : Rooms) (t : Stage) (f : Fields) {k j : Command} {s : Sheet} {told : Told} {i b p : List ℕ} → k ≡ j → Leaves (obeyed r j t f) s told i b p
-    → Leaves (obeyed r k t f) s told i b p
+pub obeyed_by : (r : Rooms) (t : Stage) (f : Fields) {k j : Command} {had : ℕ} {s : Sheet} {told : Option Told} {i b p : List ℕ} → k ≡ j → Leaves (obeyed r j t f) had s told i b p
+    → Leaves (obeyed r k t f) had s told i b p
 obeyed_by r t f e l = leaves_as (ap (λ k. obeyed r k t f) e) l
 
 -- What a stage says of the buffer and the page says nothing to a command with its fields.
@@ -116,9 +125,9 @@ module _ (line image buffer page : List ℕ) (size used : ℕ) (short : length l
   unfolding commanded answered
   commanded_bad h = rw (le-leb (length line) 4096 short, ends false h, commanded, answered) (ap (refused (stage size used image buffer page)) (sym taken.buffer))
 
-  pub commanded_good : (c : Command) (told : Told) (s : Sheet) (i b' p : List ℕ) → good ≡ true → c ≡ command_of (view line) (length line) → length b ≡ length buffer
-      → Leaves (obeyed (rooms image b page) c (stage size used image b page) (held vs texts b)) s told i b' p
-      → Leaves (commanded (rooms image buffer page) (view line) (length line) (stage size used image buffer page)) s told i b' p
+  pub commanded_good : (c : Command) (told : Option Told) (s : Sheet) (i b' p : List ℕ) → good ≡ true → c ≡ command_of (view line) (length line) → length b ≡ length buffer
+      → Leaves (obeyed (rooms image b page) c (stage size used image b page) (held vs texts b)) size s told i b' p
+      → Leaves (commanded (rooms image buffer page) (view line) (length line) (stage size used image buffer page)) size s told i b' p
   unfolding commanded answered
   commanded_good c told s i b' p h e n l =
       rw (le-leb (length line) 4096 short, ends true h, commanded, answered)
@@ -146,9 +155,9 @@ module _ (r : Rooms) (s : Bytes) (n x : ℕ) (t : Stage) where
   played_by size told i b p h e f g k = rw (← h, ap (λ u. u.at) k.same, ap (λ u. u.bytes) k.same, e, f, g, played)
 
 -- A line that is no comment: a good one, and a bad one.
-module _ (line image buffer page : List ℕ) (x size used : ℕ) (ink : Ink) (r : Told) (i b p : List ℕ) (loud : false ≡ is_silent (view line) (length line))
+module _ (line image buffer page : List ℕ) (x size used : ℕ) (ink : Ink) (r : Option Told) (i b p : List ℕ) (loud : false ≡ is_silent (view line) (length line))
     (blank : ink ≡ record { skip = 0; at = ready used })
-    (l : Leaves (commanded (rooms image buffer page) (view line) (length line) (stage size ink.at image buffer page)) (sheet ink page) r i b p) where
+    (l : Leaves (commanded (rooms image buffer page) (view line) (length line) (stage size ink.at image buffer page)) size (sheet ink page) r i b p) where
   does : After
   does = commanded (rooms image buffer page) (view line) (length line) (stage size used image buffer page)
 
@@ -160,26 +169,26 @@ module _ (line image buffer page : List ℕ) (x size used : ℕ) (ink : Ink) (r 
   fresh = rw blank
 
   ended : (told : Ink) (p' : List ℕ) → Prints (printed does x) (page_of (rooms image buffer page) (stage size used image buffer page)) (sheet told p')
-      → stage r.size told.at i b p' ≡ played (rooms image buffer page) (view line) (length line) x (stage size used image buffer page)
+      → stage (size_left size r) told.at i b p' ≡ played (rooms image buffer page) (view line) (length line) x (stage size used image buffer page)
   unfolding does
   ended told p' k =
-      played_by (rooms image buffer page) (view line) (length line) x (stage size used image buffer page) r.size told i b p' loud (l.size ∙ ap (λ u. u.size) same)
+      played_by (rooms image buffer page) (view line) (length line) x (stage size used image buffer page) (size_left size r) told i b p' loud (l.size ∙ ap (λ u. u.size) same)
       (l.image ∙ ap (λ u. u.image) same)
       (l.buffer ∙ ap (λ u. u.buffer) same)
       k
 
-  pub line_good : r.good ≡ true → stage r.size r.ink.at i b p ≡ played (rooms image buffer page) (view line) (length line) x (stage size used image buffer page)
+  pub line_good : (t : Told) → r ≡ Some t → stage t.size t.ink.at i b p ≡ played (rooms image buffer page) (view line) (length line) x (stage size used image buffer page)
   unfolding printed
-  line_good h =
-      let e : does.good ≡ true = sym (l.good ∙ ap (λ u. u.good) same) ∙ h in
-      ended r.ink p (rw (e, printed) (rw (same, fresh) at l.page))
+  line_good t h =
+      let e : does.good ≡ true = sym (l.good ∙ ap (λ u. u.good) same) ∙ ap is_some h in
+      rw h at (ended t.ink p (rw (e, printed) (rw (same, fresh) at (rw h at l.page))))
 
-  pub line_bad : (told : Ink) (p' : List ℕ) → r.good ≡ false → Prints (bad_line x) (sheet r.ink p) (sheet told p')
-      → stage r.size told.at i b p' ≡ played (rooms image buffer page) (view line) (length line) x (stage size used image buffer page)
+  pub line_bad : (told : Ink) (p' : List ℕ) → r ≡ None → Prints (bad_line x) (sheet ink p) (sheet told p')
+      → stage size told.at i b p' ≡ played (rooms image buffer page) (view line) (length line) x (stage size used image buffer page)
   unfolding printed
   line_bad told p' h k =
-      let e : does.good ≡ false = sym (l.good ∙ ap (λ u. u.good) same) ∙ h in
-      ended told p' (rw (e, printed) (rw (same, fresh) at l.page then k))
+      let e : does.good ≡ false = sym (l.good ∙ ap (λ u. u.good) same) ∙ ap is_some h in
+      rw h at (ended told p' (rw (e, printed) (rw (same, fresh) at (rw h at l.page) then k)))
 
 -- The lines from a place on, which x lines precede: none, the last, and one that others follow.
 module _ (r : Rooms) (s : Bytes) (n : ℕ) where

@@ -7,7 +7,7 @@ ghost use Rattle.model.specs.Bytes.{view};
 ghost use Rattle.ink.specs.Ink.{sheet};
 ghost use Rattle.lines.specs.declared.Command.TheVariants as command;
 ghost use Rattle.lines.specs.Commands.{Fitting, held};
-ghost use Rattle.player.specs.Played.{rooms, stage, Renews, obeyed, commanded, is_silent, ready as readyAt, played, played_all, staged, Leaves, Holds};
+ghost use Rattle.player.specs.Played.{rooms, stage, Renews, obeyed, commanded, is_silent, ready as readyAt, played, played_all, staged, size_left, Leaves, Holds};
 
 use ink::Ink;
 use lines::{Change, Command, Look};
@@ -45,33 +45,27 @@ struct State {
     used: usize,
 }
 
-// The image's length and the page after a command, and whether its line was good.
+// The image's length and the page after a command. A bad line has none: it leaves both.
 #[derive(Clone, Copy)]
 struct After {
     size: usize,
     ink: Ink,
-    good: bool,
 }
 
 // A new image of so many zeros, where its room has them.
-fn renew(wanted: usize, image: &mut [u8], page: &mut [u8], ink: Ink, size: usize) -> After
+fn renew(wanted: usize, image: &mut [u8], page: &mut [u8], ink: Ink, size: usize) -> Option<After>
     requires { size ≤ length image.old }
     ensures renews { Renews (length image.old) wanted size (view image.old) (sheet ink page.old) result image.new page.new }
-    ensures size_in_bounds { result.size ≤ length image.old }
+    ensures size_in_bounds { size_left size result ≤ length image.old }
 {
     if image.len() < wanted {
-        return After {
-            size,
-            ink,
-            good: false,
-        };
+        return None;
     }
     store::clear_run(image, 0, wanted);
-    After {
+    Some(After {
         size: wanted,
         ink: replies::say_ok(page, ink, b"", &[]),
-        good: true,
-    }
+    })
 }
 
 fn look(
@@ -83,18 +77,13 @@ fn look(
     page: &mut [u8],
     ink: Ink,
     size: usize,
-) -> After
+) -> Option<After>
     requires { (Fitting (command.Look look) (length buffer.old) values.now) × (length room.now ≡ 256) × (size ≤ length image.now) }
-    ensures leaves { Leaves (obeyed (rooms image.now buffer.old page.old) (command.Look look) (stage size ink.at image.now buffer.old page.old) (held values.now room.now buffer.old)) (sheet ink page.old) result image.now buffer.new page.new }
-    ensures size_value { result.size ≡ size }
+    ensures leaves { Leaves (obeyed (rooms image.now buffer.old page.old) (command.Look look) (stage size ink.at image.now buffer.old page.old) (held values.now room.now buffer.old)) size (sheet ink page.old) result image.now buffer.new page.new }
+    ensures size_value { size_left size result ≡ size }
 {
-    let said = looks::run(look, &image[0..size], values, room, buffer, page, ink);
-    let told = said.ink;
-    After {
-        size,
-        ink: told,
-        good: said.good,
-    }
+    let said = looks::run(look, &image[0..size], values, room, buffer, page, ink)?;
+    Some(After { size, ink: said })
 }
 
 fn change(
@@ -106,18 +95,13 @@ fn change(
     page: &mut [u8],
     ink: Ink,
     size: usize,
-) -> After
+) -> Option<After>
     requires { (Fitting (command.Change change) (length buffer.old) values.now) × (length room.now ≡ 256) × (size ≤ length image.old) }
-    ensures leaves { Leaves (obeyed (rooms image.old buffer.old page.old) (command.Change change) (stage size ink.at image.old buffer.old page.old) (held values.now room.now buffer.old)) (sheet ink page.old) result image.new buffer.new page.new }
-    ensures size_value { result.size ≡ size }
+    ensures leaves { Leaves (obeyed (rooms image.old buffer.old page.old) (command.Change change) (stage size ink.at image.old buffer.old page.old) (held values.now room.now buffer.old)) size (sheet ink page.old) result image.new buffer.new page.new }
+    ensures size_value { size_left size result ≡ size }
 {
-    let said = changes::run(change, &mut image[0..size], values, room, buffer, page, ink);
-    let told = said.ink;
-    After {
-        size,
-        ink: told,
-        good: said.good,
-    }
+    let said = changes::run(change, &mut image[0..size], values, room, buffer, page, ink)?;
+    Some(After { size, ink: said })
 }
 
 // Does a command whose fields are good.
@@ -130,21 +114,17 @@ fn obey(
     page: &mut [u8],
     ink: Ink,
     size: usize,
-) -> After
+) -> Option<After>
     requires { (Fitting command (length buffer.old) values.now) × (length room.now ≡ 256) × (size ≤ length image.old) }
-    ensures leaves { Leaves (obeyed (rooms image.old buffer.old page.old) command (stage size ink.at image.old buffer.old page.old) (held values.now room.now buffer.old)) (sheet ink page.old) result image.new buffer.new page.new }
-    ensures size_in_bounds { result.size ≤ length image.old }
+    ensures leaves { Leaves (obeyed (rooms image.old buffer.old page.old) command (stage size ink.at image.old buffer.old page.old) (held values.now room.now buffer.old)) size (sheet ink page.old) result image.new buffer.new page.new }
+    ensures size_in_bounds { size_left size result ≤ length image.old }
 {
     match command {
         Command::Blocks => renew(values[0] * BLOCK, image, page, ink, size),
         Command::Bytes => renew(values[0], image, page, ink, size),
         Command::Look(asked) => look(asked, image, values, room, buffer, page, ink, size),
         Command::Change(asked) => change(asked, image, values, room, buffer, page, ink, size),
-        Command::Unknown => After {
-            size,
-            ink,
-            good: false,
-        },
+        Command::Unknown => None,
     }
 }
 
@@ -155,29 +135,19 @@ fn command(
     page: &mut [u8],
     ink: Ink,
     size: usize,
-) -> After
+) -> Option<After>
     requires { size ≤ length image.old }
-    ensures leaves { Leaves (commanded (rooms image.old buffer.old page.old) (view line.now) (length line.now) (stage size ink.at image.old buffer.old page.old)) (sheet ink page.old) result image.new buffer.new page.new }
-    ensures size_in_bounds { result.size ≤ length image.old }
+    ensures leaves { Leaves (commanded (rooms image.old buffer.old page.old) (view line.now) (length line.now) (stage size ink.at image.old buffer.old page.old)) size (sheet ink page.old) result image.new buffer.new page.new }
+    ensures size_in_bounds { size_left size result ≤ length image.old }
 {
     let mut values = [0usize; FIELDS];
     let mut room = [0u8; ROOM];
     if LONGEST_LINE < line.len() {
-        return After {
-            size,
-            ink,
-            good: false,
-        };
+        return None;
     }
-    let read = lines::read_line(line, &mut values, &mut room, buffer);
-    if !read.good {
-        return After {
-            size,
-            ink,
-            good: false,
-        };
-    }
-    let asked = read.command;
+    let Ok(asked) = lines::read_line(line, &mut values, &mut room, buffer) else {
+        return None;
+    };
     obey(asked, image, &values, &room, buffer, page, ink, size)
 }
 
@@ -185,13 +155,7 @@ fn command(
 fn is_silent(line: &[u8]) -> bool
     ensures { result ≡ is_silent (view line.now) (length line.now) }
 {
-    if line.len() == 0 {
-        return true;
-    }
-    if LONGEST_LINE < line.len() {
-        return false;
-    }
-    line[0] == b'#'
+    line.is_empty() || (line.len() <= LONGEST_LINE && line[0] == b'#')
 }
 
 fn print<W: Write>(bytes: &[u8], output: &mut Output<W>) {
@@ -236,17 +200,15 @@ fn play_line<W: Write>(
         return state;
     }
     let ink = ready(page, state.used, output);
-    let after = command(line, image, buffer, page, ink, state.size);
-    if after.good {
-        return State {
+    match command(line, image, buffer, page, ink, state.size) {
+        Some(after) => State {
             size: after.size,
             used: after.ink.at,
-        };
-    }
-    let told = replies::say_bad_line(page, after.ink, number);
-    State {
-        size: after.size,
-        used: told.at,
+        },
+        None => State {
+            size: state.size,
+            used: replies::say_bad_line(page, ink, number).at,
+        },
     }
 }
 
@@ -264,6 +226,7 @@ fn play_lines<W: Write>(
     let mut state = State { size: 0, used: 0 };
     let mut at = 0;
     let mut number = 0;
+    // A `while`: a step is a whole line.
     while at < text.len() {
         let end = script::line_end(text, at);
         number += 1;

@@ -24,27 +24,9 @@ use Rattle.pour.specs.Pouring.{Hinted, reached, reached_by, gap, Roomy, Backed, 
 use Rattle.pour.specs.declared.Reached.{Reached}
 use Rattle.pour.proofs.CountLaws.{block_hole, index_hole}
 
--- A pointer followed: the hint finds the lowest free block.
-module _ (n : ℕ) (v : Bytes) (k i hint : ℕ) where
-  pub reach_there : (pointer v k i ≡ 0 → ⊥) → v ≡ reached n v k i
-  unfolding reached
-  reach_there d = rw (ne_eqb (pointer v k i) 0 d, reached) refl
-
-  pub told_there : (x : ℕ) → x ≡ pointer v k i → (x ≡ 0 → ⊥) → ◌≡◌ {A = Reached} (record { block = x; hint = hint }) (reached_by n v k i hint)
-  unfolding reached_by
-  told_there x e d = rw e (rw (ne_eqb (pointer v k i) 0 (λ z. d (e ∙ z)), reached_by) refl)
-
-  pub low_is : Hinted n v hint → first_free map_place v hint (n - hint) ≡ lowest map_place v n
-  low_is H = sym (lowest_from map_place v n hint H.most H.none)
-
-  pub reach_hole : (z : ℕ) → z ≡ lowest map_place v n → pointer v k i ≡ 0 → put_pointer (taken map_place v z) k i z ≡ reached n v k i
-  unfolding reached
-  reach_hole z e h = rw e (rw (eq-eqb (pointer v k i) 0 h, reached) refl)
-
-  pub told_hole : (z : ℕ) → z ≡ lowest map_place v n → pointer v k i ≡ 0
-      → ◌≡◌ {A = Reached} (record { block = z; hint = z + 1 }) (reached_by n v k i hint)
-  unfolding reached_by
-  told_hole z e h = rw e (rw (eq-eqb (pointer v k i) 0 h, reached_by) refl)
+-- The hint finds the lowest free block.
+pub low_is : (n : ℕ) (v : Bytes) (hint : ℕ) → Hinted n v hint → first_free map_place v hint (n - hint) ≡ lowest map_place v n
+low_is n v hint H = sym (lowest_from map_place v n hint H.most H.none)
 
 -- What a file block misses.
 gap_hole : (h k p : ℕ) (w : Bytes) → pointer w k (above h p % 256) ≡ 0 → gap w (suc h) k p ≡ suc h

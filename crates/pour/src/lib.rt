@@ -3,7 +3,7 @@
 #![tactic(auto)]
 
 ghost use Rattle.std.specs.Prelude.{◌≡◌, ◌+◌, ◌-◌, ◌*◌, ◌/◌, ◌%◌, ◌^◌, ◌≤◌, ◌<◌, length};
-ghost use Rattle.model.specs.Bytes.{view, sum, run};
+ghost use Rattle.model.specs.Bytes.{view, sum, run, one_if};
 ghost use Rattle.model.specs.Map.{lowest};
 ghost use Rattle.model.specs.Directory.{map_place};
 ghost use Rattle.model.specs.File.{pointer};
@@ -26,44 +26,33 @@ fn breadth(height: usize) -> usize
     requires { height < 3 }
     ensures { result ≡ 256 ^ height }
 {
-    if height == 0 {
-        return 1;
+    match height {
+        0 => 1,
+        1 => 256,
+        _ => 65536,
     }
-    if height == 1 {
-        return 256;
-    }
-    65536
 }
 
-// 1 where file block p is missing, else 0.
-fn lacks_block(img: &[u8], n: usize, height: usize, key: usize, p: usize) -> usize
+// Whether file block p is missing.
+#[tactic(auto, unfolding(model::specs::Grow::lacks_block))]
+fn lacks_block(img: &[u8], n: usize, height: usize, key: usize, p: usize) -> bool
     requires { (n ≤ 65535) × (length img.now ≡ n * 512) × (height < 3) × Deep n (view img.now) height key }
-    ensures { (result ≡ lacks_block (view img.now) height key p) × (result ≤ 1) }
+    ensures { one_if result ≡ lacks_block (view img.now) height key p }
 {
-    if breadth(height) <= p {
-        return 1;
-    }
-    if file::data_block(img, n, height, key, p) == 0 {
-        return 1;
-    }
-    0
+    breadth(height) <= p || file::data_block(img, n, height, key, p) == 0
 }
 
-// 1 where index i of a file that becomes a tree is missing, else 0.
-fn lacks_index(img: &[u8], height: usize, key: usize, i: usize) -> usize
+// Whether index i of a file that becomes a tree is missing.
+#[tactic(auto, unfolding(model::specs::Grow::lacks_index))]
+fn lacks_index(img: &[u8], height: usize, key: usize, i: usize) -> bool
     requires { (i < 256) × (key * 512 + 512 ≤ length img.now) }
-    ensures { (result ≡ lacks_index (view img.now) height key i) × (result ≤ 1) }
+    ensures { one_if result ≡ lacks_index (view img.now) height key i }
 {
     if height == 2 {
-        if store::get_pointer(img, key, i) == 0 {
-            return 1;
-        }
-        return 0;
+        store::get_pointer(img, key, i) == 0
+    } else {
+        i != 0
     }
-    if i == 0 {
-        return 0;
-    }
-    1
 }
 
 // How many of the file blocks from p to the end are missing.
@@ -71,30 +60,24 @@ fn lacks_blocks(img: &[u8], n: usize, height: usize, key: usize, p: usize, end: 
     requires { (n ≤ 65535) × (length img.now ≡ n * 512) × (height < 3) × Deep n (view img.now) height key × (end ≤ 65536) }
     ensures { (result ≡ sum (lacks_block (view img.now) height key) (run p (end - p))) × (result ≤ 65536) }
 {
-    let mut count: usize = 0;
-    let mut q = p;
-    while q < end {
-        count += lacks_block(img, n, height, key, q);
-        q += 1;
-    }
-    count
+    (p..end)
+        .filter(|q| lacks_block(img, n, height, key, *q))
+        .count()
 }
 
 // How many of the indexes from i to the end are missing.
+// Not one function with lacks_blocks: what they share is the library's filter and count.
 fn lacks_indexes(img: &[u8], height: usize, key: usize, i: usize, end: usize) -> usize
     requires { (end ≤ 256) × (key * 512 + 512 ≤ length img.now) }
     ensures { (result ≡ sum (lacks_index (view img.now) height key) (run i (end - i))) × (result ≤ 256) }
 {
-    let mut count: usize = 0;
-    let mut j = i;
-    while j < end {
-        count += lacks_index(img, height, key, j);
-        j += 1;
-    }
-    count
+    (i..end)
+        .filter(|j| lacks_index(img, height, key, *j))
+        .count()
 }
 
 // The blocks that a file whose height becomes the goal needs for its file blocks from p to the end.
+#[tactic(auto, unfolding(model::specs::Grow::need))]
 pub fn need(
     img: &[u8],
     n: usize,
@@ -109,15 +92,16 @@ pub fn need(
     ensures { result ≡ needs (view img.now) height key goal p (end - p) }
 {
     let keys = goal - height;
-    let blocks = lacks_blocks(img, n, height, key, p, end);
-    if goal != 2 {
-        return keys + blocks;
-    }
-    let indexes = lacks_indexes(img, height, key, p / 256, (end - 1) / 256 + 1);
-    keys + indexes + blocks
+    let indexes = if goal == 2 {
+        lacks_indexes(img, height, key, p / 256, (end - 1) / 256 + 1)
+    } else {
+        0
+    };
+    keys + indexes + lacks_blocks(img, n, height, key, p, end)
 }
 
 // The block that pointer i of a block leads to: where it is a hole, the lowest free block is taken for it.
+#[tactic(auto, using(growth::proofs::Laws::map_fits, crate::proofs::Laws::low_is), unfolding(crate::specs::Pouring::reached, crate::specs::Pouring::reached_by))]
 fn reach(img: &mut [u8], n: usize, key: usize, i: usize, hint: usize) -> Reached
     requires le_n { (16 ≤ n) × (n ≤ 65535) × (length img.old ≡ n * 512) × (key < n) × (i < 256) × Hinted n (view img.old) hint }
     requires n_bound { pointer (view img.old) key i ≡ 0 → lowest map_place (view img.old) n < n }
@@ -138,6 +122,7 @@ fn reach(img: &mut [u8], n: usize, key: usize, i: usize, hint: usize) -> Reached
 }
 
 // What file block p misses below an index is taken.
+#[tactic(auto, using(crate::proofs::Laws::gap_found, model::proofs::Laws::Move::fit_key), unfolding(model::specs::File::above))]
 fn back_index(img: &mut [u8], n: usize, key: usize, p: usize, hint: usize) -> Reached
     requires { (length img.old ≡ n * 512) × Roomy n (view img.old) 1 key p × Hinted n (view img.old) hint }
     ensures { Backed n (view img.old) 1 key p (view img.new) result }
@@ -146,14 +131,14 @@ fn back_index(img: &mut [u8], n: usize, key: usize, p: usize, hint: usize) -> Re
 }
 
 // What file block p misses below a master index is taken, the index before the data block.
+// No generic with back_index: one pointer is followed there and two here, so nothing but the number of steps is shared.
+#[tactic(auto, using(crate::proofs::Laws::gap_found, model::proofs::Laws::Move::fit_key), unfolding(model::specs::File::above))]
 fn back_master(img: &mut [u8], n: usize, key: usize, p: usize, hint: usize) -> Reached
     requires { (length img.old ≡ n * 512) × Roomy n (view img.old) 2 key p × Hinted n (view img.old) hint }
     ensures { Backed n (view img.old) 2 key p (view img.new) result }
 {
     let index = reach(img, n, key, p / 256 % 256, hint);
-    let block = index.block;
-    let next = index.hint;
-    back_index(img, n, block, p, next)
+    back_index(img, n, index.block, p, index.hint)
 }
 
 // What file block p misses is taken.
@@ -161,24 +146,23 @@ fn back(img: &mut [u8], n: usize, height: usize, key: usize, p: usize, hint: usi
     requires { (length img.old ≡ n * 512) × (height < 3) × Roomy n (view img.old) height key p × Hinted n (view img.old) hint }
     ensures { Backed n (view img.old) height key p (view img.new) result }
 {
-    if height == 0 {
-        return Reached { block: key, hint };
+    match height {
+        0 => Reached { block: key, hint },
+        1 => back_index(img, n, key, p, hint),
+        _ => back_master(img, n, key, p, hint),
     }
-    if height == 1 {
-        return back_index(img, n, key, p, hint);
-    }
-    back_master(img, n, key, p, hint)
 }
 
 // Of the data at a position, what falls into file block p is laid in a block.
+#[tactic(auto, unfolding(crate::specs::Pouring::laid_in))]
 fn lay(img: &mut [u8], block: usize, p: usize, position: usize, buffer: &[u8])
     requires block_in_bounds { (block * 512 + 512 ≤ length img.old) × (position + length buffer.now < 16777216) }
     requires position_bound { (position < p * 512 + 512) × (p * 512 < position + length buffer.now) × (0 < length buffer.now) }
     ensures { view img.new ≡ laid_in (view img.old) block p position (view buffer.now) (length buffer.now) }
 {
     let first = p * 512;
-    let start = store::largest(position, first);
-    let end = store::least(position + buffer.len(), first + 512);
+    let start = position.max(first);
+    let end = (position + buffer.len()).min(first + 512);
     store::copy_run(
         img,
         block * 512 + (start - first),
@@ -195,13 +179,10 @@ pub fn pour(img: &mut [u8], n: usize, height: usize, key: usize, position: usize
     ensures { view img.new ≡ poured map_place n (view img.old) height key (position / 512) (touched position (length buffer.now)) position (view buffer.now) (length buffer.now) }
 {
     let end = (position + buffer.len() - 1) / 512 + 1;
-    let mut p = position / 512;
-    let mut hint: usize = 0;
-    while p < end {
+    let mut hint = 0;
+    for p in position / 512..end {
         let found = back(img, n, height, key, p, hint);
-        let block = found.block;
-        lay(img, block, p, position, buffer);
+        lay(img, found.block, p, position, buffer);
         hint = found.hint;
-        p += 1;
     }
 }

@@ -1,4 +1,5 @@
 -- What the branches of the code answer: the rows of read from $4B on.
+use Rattle.std.specs.Prelude.{Ok, Err}
 use Prim.Native.Nat.{ℕ, ◌/◌, ◌%◌, ◌≤◌, ◌<◌}
 use mathlib.Core.Path.{◌≡◌, refl, sym, ap, ◌∙◌}
 use mathlib.Core.List.{List, [], ◌∷◌}
@@ -15,7 +16,6 @@ use Rattle.model.specs.Calls.{allows, read_bit}
 use Rattle.model.specs.Read.{Filled, filled}
 use Rattle.model.specs.Answers.{Reads}
 use Rattle.model.specs.declared.Refusal.{Refusal}
-use Rattle.model.specs.declared.Transfer.TheVariants as transfer
 use Rattle.model.specs.declared.Entry.{Entry}
 use Rattle.model.proofs.RefusalLaws.{settle_refused, settle_accepted, number_refuses, first_applies, first_passes}
 use Rattle.claims.proofs.TestLaws.{and_true, and_false}
@@ -71,7 +71,7 @@ module _ (v : Bytes) (x : Entry) (pos : ℕ) (l : List ℕ) where
   done =
       filled (entry_count x pos (length l)) (paste (view l) 0 (entry_count x pos (length l)) (from (file_byte v (height_of x.kind) (key_of x.kind)) pos))
 
-  pub entry_no : (r : Refusal) → entry_read_number x pos (length l) ≡ refusal_number r → Reads (entry_read v x pos (view l) (length l)) (length l) (transfer.Refused r) l
+  pub entry_no : (r : Refusal) → entry_read_number x pos (length l) ≡ refusal_number r → Reads (entry_read v x pos (view l) (length l)) (length l) (Err r) l
   unfolding entry_read settle
   entry_no r e =
       let s = settle_refused (entry_read_number x pos (length l)) (filled 0 (view l)) v done v (λ z. number_refuses r (sym e ∙ z)) in
@@ -79,7 +79,7 @@ module _ (v : Bytes) (x : Entry) (pos : ℕ) (l : List ℕ) where
 
   pub entry_moved : (k : ℕ) (m : List ℕ) → entry_read_number x pos (length l) ≡ 0 → k ≡ entry_count x pos (length l) → length m ≡ length l
       → view m ≡ paste (view l) 0 k (from (file_byte v (height_of x.kind) (key_of x.kind)) pos)
-      → Reads (entry_read v x pos (view l) (length l)) (length l) (transfer.Moved k) m
+      → Reads (entry_read v x pos (view l) (length l)) (length l) (Ok k) m
   unfolding entry_read settle
   entry_moved k m e c n b =
       let s = settle_accepted (entry_read_number x pos (length l)) (filled 0 (view l)) v done v e in

@@ -1,4 +1,5 @@
 -- What read answers, by what the path leads to.
+use Rattle.std.specs.Prelude.{Result, Ok, Err}
 use Prim.Native.Nat.{ℕ, ◌<◌}
 use mathlib.Core.Path.{◌≡◌, refl, sym, ap, ◌∙◌}
 use mathlib.Core.List.{List, [], ◌∷◌}
@@ -17,7 +18,6 @@ use Rattle.model.specs.Read.{Filled, filled, to_read, filled_from, read_number, 
 use Rattle.model.specs.Answers.{Reads}
 use Rattle.model.specs.declared.Refusal.{Refusal}
 use Rattle.model.specs.declared.Refusal.TheVariants.{BadKind}
-use Rattle.model.specs.declared.Transfer.TheVariants as transfer
 use Rattle.model.specs.declared.Entry.{Entry}
 use Rattle.model.specs.declared.Place.{Place}
 use Rattle.model.proofs.RefusalLaws.{settle_refused, number_refuses, first_applies}
@@ -45,14 +45,14 @@ read_number_law len v p k pos size = opened_first len v p k (rows_at v pos size 
 
 -- a refused read leaves the buffer
 pub read_no : (len : ℕ) (v p : Bytes) (k pos : ℕ) (l : List ℕ) (r : Refusal) → read_number len v p k pos (length l) (target v p k) ≡ refusal_number r
-    → Reads (read len v p k pos (view l) (length l)) (length l) (transfer.Refused r) l
+    → Reads (read len v p k pos (view l) (length l)) (length l) (Err r) l
 unfolding read settle
 read_no len v p k pos l r e =
     let s = settle_refused (read_number len v p k pos (length l) (target v p k)) (filled 0 (view l)) v (filled_from v (spot (target v p k)) pos (view l) (length l)) v (λ z. number_refuses r (sym e ∙ z)) in
     record { said = sym e; moved = sym (ap (λ f. f.moved) s.0); size = refl; bytes = sym (ap (λ f. f.buffer) s.0) }
 
-pub read_refused : (len : ℕ) (v p : Bytes) (k pos : ℕ) (l : List ℕ) (r : Refusal) → opened_by len v p k ≡ opened.Refused r
-    → Reads (read len v p k pos (view l) (length l)) (length l) (transfer.Refused r) l
+pub read_refused : (len : ℕ) (v p : Bytes) (k pos : ℕ) (l : List ℕ) (r : Refusal) → opened_by len v p k ≡ Err r
+    → Reads (read len v p k pos (view l) (length l)) (length l) (Err r) l
 read_refused len v p k pos l r e =
     read_no len v p k pos l r (read_number_law len v p k pos (length l) ∙ ap (λ o. opened_or o (first (rows_at v pos (length l) (spot (target v p k))))) e)
 
@@ -60,14 +60,14 @@ volume_number : (v : Bytes) (pos size d : ℕ) → first (rows_at v pos size (sp
 unfolding first rows_at spot sort
 volume_number v pos size d = refl
 
-pub read_volume : (len : ℕ) (v p : Bytes) (k pos n : ℕ) (l : List ℕ) → opened_by len v p k ≡ opened.Volume n
-    → Reads (read len v p k pos (view l) (length l)) (length l) (transfer.Refused BadKind) l
+pub read_volume : (len : ℕ) (v p : Bytes) (k pos n : ℕ) (l : List ℕ) → opened_by len v p k ≡ Ok (opened.Volume n)
+    → Reads (read len v p k pos (view l) (length l)) (length l) (Err BadKind) l
 read_volume len v p k pos n l e = go (opened_by len v p k) refl e (seen len v p k)
   where
     number : (d : ℕ) → target v p k ≡ there d volume → first (rows_at v pos (length l) (spot (target v p k))) ≡ 0x4B
     number d t = ap (λ t. first (rows_at v pos (length l) (spot t))) t ∙ volume_number v pos (length l) d
 
-    go : (o : Opened) → opened_by len v p k ≡ o → o ≡ opened.Volume n → Seen len v p k o → Reads (read len v p k pos (view l) (length l)) (length l) (transfer.Refused BadKind) l
+    go : (o : Result Opened Refusal) → opened_by len v p k ≡ o → o ≡ Ok (opened.Volume n) → Seen len v p k o → Reads (read len v p k pos (view l) (length l)) (length l) (Err BadKind) l
     go o q z (refused r x) = let y : ◌≡◌ {A = ℕ} 0 1 = cc in absurd (omega arith)
     go o q z (on_volume d f t) = read_no len v p k pos l BadKind (read_number_law len v p k pos (length l) ∙ ap (λ o. opened_or o (first (rows_at v pos (length l) (spot (target v p k))))) q ∙ number d t)
     go o q z (on_entry d s f t off) = let y : ◌≡◌ {A = ℕ} 0 1 = cc in absurd (omega arith)
@@ -132,12 +132,12 @@ module _ (n : ℕ) (v : Bytes) (d s : ℕ) (h : sound n v ≡ true) (w : Named v
       record { low = rw hk t; backed = rw (hk, kk) g.backed }
 
 -- the path leads to an entry
-pub read_entry : (len : ℕ) (v p : Bytes) (k pos : ℕ) (buffer : Bytes) (size n : ℕ) (g : Home) (s : Place) (x : Entry) → opened_by len v p k ≡ opened.Entry n g s x
+pub read_entry : (len : ℕ) (v p : Bytes) (k pos : ℕ) (buffer : Bytes) (size n : ℕ) (g : Home) (s : Place) (x : Entry) → opened_by len v p k ≡ Ok (opened.Entry n g s x)
     → Fits len v n × (read len v p k pos buffer size ≡ entry_read v x pos buffer size) × (is_folder x.kind ≡ false → Readable n v x)
 unfolding read
 read_entry len v p k pos buffer size n g s x e = go (opened_by len v p k) refl e (seen len v p k)
   where
-    go : (o : Opened) → opened_by len v p k ≡ o → o ≡ opened.Entry n g s x → Seen len v p k o
+    go : (o : Result Opened Refusal) → opened_by len v p k ≡ o → o ≡ Ok (opened.Entry n g s x) → Seen len v p k o
         → Fits len v n × (read len v p k pos buffer size ≡ entry_read v x pos buffer size) × (is_folder x.kind ≡ false → Readable n v x)
     go o q z (refused r y) = let w : ◌≡◌ {A = ℕ} 0 1 = cc in absurd (omega arith)
     go o q z (on_volume d f t) = let w : ◌≡◌ {A = ℕ} 0 1 = cc in absurd (omega arith)

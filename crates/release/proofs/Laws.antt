@@ -169,10 +169,11 @@ pub record Giving (n : ℕ) (v : Bytes) (h k f : ℕ) (w : Bytes) (i : ℕ) : Ty
   pub same : Kept n v w
   pub rest : given_all map_place w (below v h k i) ≡ given_all map_place v (below v h k f)
   pub loose : Loose n (k ∷ below v h k i)
+  pub on_volume : k < n
 
 module _ (n : ℕ) (v : Bytes) (h k f : ℕ) where
   pub giving_start : Loose n (k ∷ below v h k f) → Giving n v h k f v f
-  giving_start g = record { same = kept_none n v; rest = refl; loose = g }
+  giving_start g = record { same = kept_none n v; rest = refl; loose = g; on_volume = (loose_head n k (below v h k f) g).0 }
 
   module _ (w : Bytes) (i : ℕ) (G : Giving n v h k f w i) where
     pub giving_done : 256 ≤ i → w ≡ given_all map_place v (below v h k f)
@@ -186,19 +187,34 @@ module _ (n : ℕ) (v : Bytes) (h k f : ℕ) where
       here : Loose n (k ∷ limb_at v h k i)
       here = loose_cons n k (below v h k i) (limb_at v h k i) G.loose (loose_left n (limb_at v h k i) (below v h k (i + 1)) both)
 
-      pub giving_limb : Loose n (k ∷ limb_at w h k i)
-      giving_limb = rw (limb_kept n v w G.same h k i l here) here
+      limb_same : limb_at w h k i ≡ limb_at v h k i
+      limb_same = limb_kept n v w G.same h k i l here
 
-      pub giving_on : (w' : Bytes) → w' ≡ given_all map_place w (limb_at w h k i) → Giving n v h k f w' (i + 1)
-      giving_on w' e =
-          let e' : w' ≡ given_all map_place w (limb_at v h k i) = e ∙ ap (given_all map_place w) (limb_kept n v w G.same h k i l here) in
+      limb_loose : Loose n (limb_at w h k i)
+      limb_loose = rw limb_same (loose_tail n k (limb_at v h k i) here)
+
+      limb_given : (w' : Bytes) → w' ≡ given_all map_place w (limb_at w h k i) → Giving n v h k f w' (i + 1)
+      limb_given w' e =
+          let e' : w' ≡ given_all map_place w (limb_at v h k i) = e ∙ ap (given_all map_place w) limb_same in
           let kept = kept_all n w (limb_at v h k i) (loose_left n (limb_at v h k i) (below v h k (i + 1)) both) in
           record {
             same = rw e' (kept_then n v w (given_all map_place w (limb_at v h k i)) G.same kept);
             rest = rw e' (sym (all_append map_place w (limb_at v h k i) (below v h k (i + 1)))
                 ∙ ap (given_all map_place w) (sym (below_step v h k i l)) ∙ G.rest);
             loose = loose_cons n k (below v h k i) (below v h k (i + 1)) G.loose (loose_right n (limb_at v h k i) (below v h k (i + 1)) both);
+            on_volume = G.on_volume;
           }
+
+      module _ (p : ℕ) (is_pointer : p ≡ pointer w k i) where
+        pub giving_hole : p ≡ 0 → Giving n v h k f w (i + 1)
+        unfolding given_all
+        giving_hole z = limb_given w (sym (ap (given_all map_place w) (limb_hole w h k i p is_pointer z)))
+
+        pub giving_tree : (p ≡ 0 → ⊥) → Loose n (tree w h p)
+        giving_tree z = rw (limb_held w h k i p is_pointer z) at limb_loose
+
+        pub giving_on : (p ≡ 0 → ⊥) → (w' : Bytes) → w' ≡ given_all map_place w (tree w h p) → Giving n v h k f w' (i + 1)
+        giving_on z w' e = limb_given w' (e ∙ sym (ap (given_all map_place w) (limb_held w h k i p is_pointer z)))
 
 -- A block, then what lies below it.
 module _ (n : ℕ) (v : Bytes) (h k : ℕ) (f : Loose n (tree v (suc h) k)) (w : Bytes) (gave : w ≡ given map_place v k) where
@@ -223,6 +239,7 @@ pub record Chaining (n : ℕ) (v : Bytes) (k u₀ : ℕ) (w : Bytes) (b u : ℕ)
   pub same : Kept n v w
   pub rest : given_all map_place w (chain v b u) ≡ given_all map_place v (chain v k u₀)
   pub loose : Loose n (chain v b u)
+  pub on_volume : 0 < u → b < n
 
 pub chain_step : (v : Bytes) (b u : ℕ) → 0 < u → chain v b u ≡ b ∷ chain v (next v b) (u - 1)
 unfolding chain
@@ -234,9 +251,12 @@ unfolding chain
 chain_end v b zero l = refl
 chain_end v b (suc u) l = absurd (omega arith)
 
+chain_low : (n : ℕ) (v : Bytes) (b u : ℕ) → Loose n (chain v b u) → 0 < u → b < n
+chain_low n v b u g l = (loose_head n b (chain v (next v b) (u - 1)) (rw (chain_step v b u l) at g)).0
+
 module _ (n : ℕ) (v : Bytes) (k u₀ : ℕ) where
   pub chaining_start : Loose n (chain v k u₀) → Chaining n v k u₀ v k u₀
-  chaining_start g = record { same = kept_none n v; rest = refl; loose = g }
+  chaining_start g = record { same = kept_none n v; rest = refl; loose = g; on_volume = chain_low n v k u₀ g }
 
   module _ (w : Bytes) (b u : ℕ) (C : Chaining n v k u₀ w b u) where
     pub chaining_done : u ≤ 0 → w ≡ given_all map_place v (chain v k u₀)
@@ -247,16 +267,15 @@ module _ (n : ℕ) (v : Bytes) (k u₀ : ℕ) where
       link : Loose n (b ∷ chain v (next v b) (u - 1))
       link = rw (chain_step v b u l) at C.loose
 
-      pub chaining_low : b < n
-      chaining_low = (loose_head n b (chain v (next v b) (u - 1)) link).0
-
       pub chaining_on : (x : ℕ) (w' : Bytes) → x ≡ next w b → w' ≡ given map_place w b → Chaining n v k u₀ w' x (u - 1)
       unfolding given_all
       chaining_on x w' e g =
           let ok = loose_head n b (chain v (next v b) (u - 1)) link in
           let e' : x ≡ next v b = e ∙ next_kept n v w C.same b ok.1 in
+          let rest : Loose n (chain v x (u - 1)) = rw e' (loose_tail n b (chain v (next v b) (u - 1)) link) in
           record {
             same = rw g (kept_then n v w (given map_place w b) C.same (given_alike n w b ok.0));
             rest = rw (e', g) (ap (given_all map_place w) (sym (chain_step v b u l)) ∙ C.rest);
-            loose = rw e' (loose_tail n b (chain v (next v b) (u - 1)) link);
+            loose = rest;
+            on_volume = chain_low n v x (u - 1) rest;
           }

@@ -1,4 +1,5 @@
 -- What rename answers and stores, by what the path opened.
+use Rattle.std.specs.Prelude.{Result, Ok, Err}
 use Prim.Native.Nat.{ℕ, zero, suc, ◌+◌, ◌-◌, ◌*◌, ◌/◌, ◌%◌, ◌≤◌}
 use mathlib.Core.Path.{◌≡◌, refl, sym, ap, ◌∙◌}
 use mathlib.Core.Bool.{Bool, true, false, not}
@@ -7,7 +8,7 @@ use mathlib.Core.Option.{Option, none, some}
 use lib.ListN.{length}
 use lib.Dec.{eqb}
 use native.Mathlib.Omega.{arith}
-use borrow.Author.Tests.{eqb-true, eqb-false, eq-eqb, ne_eqb}
+use borrow.Author.Tests.{eqb-true, eqb-false, ne_eqb}
 use Rattle.model.specs.Bytes.{Bytes, view, put, ◌and◌, ◌or◌}
 use Rattle.model.specs.Names.{part, proper_path, proper_name}
 use Rattle.model.specs.Directory.{at, place, volume, Sort, inactive, directory, improper, file, sort, is_active, key, used, access, kids, seek, Target, there}
@@ -17,14 +18,11 @@ use Rattle.model.specs.Rename.{named, header_named, renamed, is_other, name_take
 use Rattle.model.specs.Answers.{Does}
 use Rattle.model.specs.declared.Place.{Place}
 use Rattle.model.specs.declared.Entry.{Entry}
-use Rattle.model.specs.declared.Found.{Found}
-use Rattle.model.specs.declared.Found.TheVariants as found
 use Rattle.model.specs.declared.Refusal.{Refusal}
 use Rattle.model.specs.declared.Refusal.TheVariants.{BadPath, Duplicate, Locked}
-use Rattle.model.specs.declared.Answer.TheVariants as answer
 use Rattle.model.proofs.RefusalLaws.{first_applies, first_passes}
 use Rattle.directory.specs.Slots.{place_number, Counted, place_of, kind_of, entry_of, entry_with}
-use Rattle.directory.specs.Search.{found_at, found_in, listed}
+use Rattle.directory.specs.Search.{Found, found_at, found_in, listed}
 use Rattle.directory.specs.Lookup.{home_of}
 use Rattle.directory.specs.declared.Home.{Home}
 use Rattle.directory.proofs.SlotLaws.{never, place_number_law}
@@ -63,14 +61,6 @@ unfolding is_other_place is_other
 other_place v none l c = refl
 other_place v (some t) l c = other_by t l c (eqb (t / 13) l.block) (eqb (t % 13 + 1) l.slot) (eqb t (place_number l)) refl refl refl
 
-pub other_same : (m l : Place) (e : Entry) → m.block ≡ l.block → is_other_place (found.At m e) l ≡ not (eqb m.slot l.slot)
-unfolding is_other_place ◌or◌
-other_same m l e h = ap (λ b. not b or not (eqb m.slot l.slot)) (eq-eqb m.block l.block h)
-
-pub other_block : (m l : Place) (e : Entry) → (m.block ≡ l.block → ⊥) → is_other_place (found.At m e) l ≡ true
-unfolding is_other_place ◌or◌
-other_block m l e h = ap (λ b. not b or not (eqb m.slot l.slot)) (ne_eqb m.block l.block h)
-
 -- what the search in the directory says of $47
 pub found_other : (v : Bytes) (name : List ℕ) (h : Home) (l : Place) → Counted l → (r : Found) (b : Bool)
     → r ≡ found_in v name (listed v h.key h.used) → b ≡ is_other_place r l
@@ -95,17 +85,17 @@ module _ (l : List ℕ) (h : Home) (s : Place) (x : Entry) (q : Bytes) (j : ℕ)
   abbrev locked : Row
   locked = row (not (allows x.access rename_bit)) 0x4E
 
-  pub entry_duplicate : other ≡ true → Does (entry_renamed (view l) h s x q j) (length l) (answer.Refused Duplicate) l
+  pub entry_duplicate : other ≡ true → Does (entry_renamed (view l) h s x q j) (length l) (Err Duplicate) l
   unfolding entry_renamed
   entry_duplicate e = does_refused _ l _ Duplicate (first_applies (row other 0x47) (locked ∷ []) e)
 
-  pub entry_locked : other ≡ false → allows x.access rename_bit ≡ false → Does (entry_renamed (view l) h s x q j) (length l) (answer.Refused Locked) l
+  pub entry_locked : other ≡ false → allows x.access rename_bit ≡ false → Does (entry_renamed (view l) h s x q j) (length l) (Err Locked) l
   unfolding entry_renamed
   entry_locked e f = does_refused _ l _ Locked (first_passes (row other 0x47) (locked ∷ []) e ∙ first_applies locked [] (ap not f))
 
   pub entry_done : (l' : List ℕ) → other ≡ false → allows x.access rename_bit ≡ true → length l' ≡ length l
       → view l' ≡ put (named_in x.kind (named (view l) (at (place_number s)) q j) q j) (at (place_number s) + 0x1E) (backed_up x.access)
-      → Does (entry_renamed (view l) h s x q j) (length l) answer.Done l'
+      → Does (entry_renamed (view l) h s x q j) (length l) (Ok tt) l'
   unfolding entry_renamed first
   entry_done l' e f m w =
       does_done _ (length l) (view l) _ l' (first_passes (row other 0x47) (locked ∷ []) e ∙ first_passes locked [] (ap not f)) m w
@@ -114,12 +104,12 @@ module _ (l : List ℕ) (q : Bytes) (j : ℕ) where
   abbrev volume_row : Row
   volume_row = row (not (allows (access (view l) volume) rename_bit)) 0x4E
 
-  pub volume_locked : allows (access (view l) volume) rename_bit ≡ false → Does (volume_renamed (view l) q j) (length l) (answer.Refused Locked) l
+  pub volume_locked : allows (access (view l) volume) rename_bit ≡ false → Does (volume_renamed (view l) q j) (length l) (Err Locked) l
   unfolding volume_renamed
   volume_locked f = does_refused _ l _ Locked (first_applies volume_row [] (ap not f))
 
   pub volume_done : (l' : List ℕ) → allows (access (view l) volume) rename_bit ≡ true → length l' ≡ length l → view l' ≡ named (view l) (at volume) q j
-      → Does (volume_renamed (view l) q j) (length l) answer.Done l'
+      → Does (volume_renamed (view l) q j) (length l) (Ok tt) l'
   unfolding volume_renamed first
   volume_done l' f m w = does_done _ (length l) (view l) _ l' (first_passes volume_row [] (ap not f)) m w
 
@@ -127,25 +117,25 @@ module _ (len : ℕ) (v p : Bytes) (k : ℕ) (q : Bytes) (j : ℕ) where
   abbrev fit : Bool
   fit = proper_name q 0 j
 
-  abbrev way : Opened
+  abbrev way : Result Opened Refusal
   way = opened_if fit BadPath len v p k
 
   -- $47 and $4E
   abbrev last_rows : Target → List Row
   last_rows t = row (name_taken v (home t) (spot t) q j) 0x47 ∷ row (not (allows (access v (spot t)) rename_bit)) 0x4E ∷ []
 
-  rename_number_law : (o : Opened) → way ≡ o → rename_number len v p k q j (target v p k) ≡ opened_or o (first (last_rows (target v p k)))
+  rename_number_law : (o : Result Opened Refusal) → way ≡ o → rename_number len v p k q j (target v p k) ≡ opened_or o (first (last_rows (target v p k)))
   unfolding rename_number
   rename_number_law o e =
       rows_apart (not_prodos len v) (not_sound len v) (proper_path p k) fit 0x40 _
       ∙ if_first fit BadPath len v p k (last_rows (target v p k))
       ∙ ap (λ x. opened_or x (first (last_rows (target v p k)))) e
 
-  pub rename_refused : (r : Refusal) → way ≡ opened.Refused r → rename_number len v p k q j (target v p k) ≡ refusal_number r
-  rename_refused r e = rename_number_law (opened.Refused r) e
+  pub rename_refused : (r : Refusal) → way ≡ Err r → rename_number len v p k q j (target v p k) ≡ refusal_number r
+  rename_refused r e = rename_number_law (Err r) e
 
   -- a name that was fit is short enough to be stored
-  pub name_short : (o : Opened) → way ≡ o → ((w : Refusal) → o ≡ opened.Refused w → ⊥) → j ≤ 15
+  pub name_short : (o : Result Opened Refusal) → way ≡ o → ((w : Refusal) → o ≡ Err w → ⊥) → j ≤ 15
   name_short o e n = (name_size_law q 0 j (if_open fit BadPath len v p k o e n).0).1
 
   -- the volume
@@ -154,16 +144,16 @@ module _ (len : ℕ) (v p : Bytes) (k : ℕ) (q : Bytes) (j : ℕ) where
   unfolding volume_renamed name_taken renamed first home spot ◌and◌
   volume_as d t e = ap (λ x. settle (first (last_rows x)) nothing v nothing (renamed v (spot x) q j)) e
 
-  pub rename_volume : (n : ℕ) → way ≡ opened.Volume n → Fits len v n × (rename len v p k q j ≡ volume_renamed v q j)
+  pub rename_volume : (n : ℕ) → way ≡ Ok (opened.Volume n) → Fits len v n × (rename len v p k q j ≡ volume_renamed v q j)
   unfolding rename
-  rename_volume n e = go (opened_by len v p k) refl (if_open fit BadPath len v p k (opened.Volume n) e (λ w z. never (cc))).1 (seen len v p k)
+  rename_volume n e = go (opened_by len v p k) refl (if_open fit BadPath len v p k (Ok (opened.Volume n)) e (λ w z. never (cc))).1 (seen len v p k)
     where
-      go : (o : Opened) → opened_by len v p k ≡ o → o ≡ opened.Volume n → Seen len v p k o → Fits len v n × (rename len v p k q j ≡ volume_renamed v q j)
+      go : (o : Result Opened Refusal) → opened_by len v p k ≡ o → o ≡ Ok (opened.Volume n) → Seen len v p k o → Fits len v n × (rename len v p k q j ≡ volume_renamed v q j)
       go o y z (refused r x) = never (cc)
       go o y z (on_volume d f u) =
           let m : total len ≡ n = cc in (
             rw (← m) f,
-            ap (λ x. settle x nothing v nothing (renamed v (spot (target v p k)) q j)) (rename_number_law (opened.Volume n) e) ∙ volume_as d (target v p k) u,
+            ap (λ x. settle x nothing v nothing (renamed v (spot (target v p k)) q j)) (rename_number_law (Ok (opened.Volume n)) e) ∙ volume_as d (target v p k) u,
           )
       go o y z (on_entry d s f u off) = never (cc)
 
@@ -198,12 +188,12 @@ module _ (len : ℕ) (v p : Bytes) (k : ℕ) (q : Bytes) (j : ℕ) where
         nothing
         (put (named_in (entry_of v (at s)).kind (named v (at b) q j) q j) (at b + 0x1E) (backed_up (access v s)))) (sym (place_number_law s))
 
-  pub rename_entry : (n : ℕ) (h : Home) (l : Place) (x : Entry) → way ≡ opened.Entry n h l x
+  pub rename_entry : (n : ℕ) (h : Home) (l : Place) (x : Entry) → way ≡ Ok (opened.Entry n h l x)
       → Held n len v h l x × (rename len v p k q j ≡ entry_renamed v h l x q j)
   unfolding rename
-  rename_entry n h l x e = go (opened_by len v p k) refl (if_open fit BadPath len v p k (opened.Entry n h l x) e (λ w z. never (cc))).1 (seen len v p k)
+  rename_entry n h l x e = go (opened_by len v p k) refl (if_open fit BadPath len v p k (Ok (opened.Entry n h l x)) e (λ w z. never (cc))).1 (seen len v p k)
     where
-      go : (o : Opened) → opened_by len v p k ≡ o → o ≡ opened.Entry n h l x → Seen len v p k o → Held n len v h l x × (rename len v p k q j ≡ entry_renamed v h l x q j)
+      go : (o : Result Opened Refusal) → opened_by len v p k ≡ o → o ≡ Ok (opened.Entry n h l x) → Seen len v p k o → Held n len v h l x × (rename len v p k q j ≡ entry_renamed v h l x q j)
       go o y z (refused r w) = never (cc)
       go o y z (on_volume d f u) = never (cc)
       go o y z (on_entry d s f u off) =
@@ -213,11 +203,11 @@ module _ (len : ℕ) (v p : Bytes) (k : ℕ) (q : Bytes) (j : ℕ) where
           let g : entry_of v (at s) ≡ x = cc in
           rw (← a, ← b, ← c, ← g) (
             entry_held len v p k d s f u off,
-            ap (λ m. settle m nothing v nothing (renamed v (spot (target v p k)) q j)) (rename_number_law (opened.Entry n h l x) e) ∙ entry_as d s f u off,
+            ap (λ m. settle m nothing v nothing (renamed v (spot (target v p k)) q j)) (rename_number_law (Ok (opened.Entry n h l x)) e) ∙ entry_as d s f u off,
           )
 
 pub rename_does_refused : (l : List ℕ) (p : Bytes) (k : ℕ) (q : Bytes) (j : ℕ) (r : Refusal)
-    → opened_if (proper_name q 0 j) BadPath (length l) (view l) p k ≡ opened.Refused r
-    → Does (rename (length l) (view l) p k q j) (length l) (answer.Refused r) l
+    → opened_if (proper_name q 0 j) BadPath (length l) (view l) p k ≡ Err r
+    → Does (rename (length l) (view l) p k q j) (length l) (Err r) l
 unfolding rename
 rename_does_refused l p k q j r e = does_refused _ l _ r (rename_refused (length l) (view l) p k q j r e)

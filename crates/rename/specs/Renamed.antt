@@ -1,5 +1,5 @@
 -- The steps of rename: of the volume, and of an entry that was opened.
-use Rattle.std.specs.Prelude.{ℕ, ◌+◌, ◌*◌, ◌≤◌, ◌<◌, ◌≡◌, Bool, false, not, [], ◌∷◌, eqb}
+use Rattle.std.specs.Prelude.{ℕ, ◌+◌, ◌*◌, ◌≤◌, ◌<◌, ◌≡◌, Bool, false, not, [], ◌∷◌, eqb, Some, None}
 use Rattle.model.specs.Bytes.{Bytes, put, ◌or◌}
 use Rattle.model.specs.Names.{part}
 use Rattle.model.specs.Directory.{at, volume, access, seek}
@@ -10,16 +10,14 @@ use Rattle.model.specs.declared.Kind.{Kind}
 use Rattle.model.specs.declared.Kind.TheVariants.{Seedling, Sapling, Tree, Directory}
 use Rattle.model.specs.declared.Entry.{Entry}
 use Rattle.model.specs.declared.Place.{Place}
-use Rattle.model.specs.declared.Found.{Found}
-use Rattle.model.specs.declared.Found.TheVariants as found
 use Rattle.directory.specs.Slots.{place_number, Counted, entry_of}
-use Rattle.directory.specs.Search.{Searchable, listed}
+use Rattle.directory.specs.Search.{Searchable, listed, Found}
 use Rattle.directory.specs.declared.Home.{Home}
 
 -- an entry was found, at another place
 unfoldable pub is_other_place : Found → Place → Bool
-is_other_place found.Missing l = false
-is_other_place (found.At m e) l = not (eqb m.block l.block) or not (eqb m.slot l.slot)
+is_other_place None l = false
+is_other_place (Some f) l = not (eqb f.0.block l.block) or not (eqb f.0.slot l.slot)
 
 -- a directory's header gets the name of its entry
 unfoldable pub named_in : Kind → Bytes → Bytes → ℕ → Bytes

@@ -9,7 +9,7 @@ ghost use Rattle.model.specs.Answers.{Does};
 ghost use Rattle.rename.specs.Renamed.{is_other_place, named_in, Header, Held, volume_renamed, entry_renamed};
 
 use directory::Home;
-use model::{Answer, Entry, Found, Kind, Place, Refusal};
+use model::{Entry, Kind, Place, Refusal};
 use opening::Opened;
 
 // Where the volume's header begins: slot 1 of block 2.
@@ -26,17 +26,12 @@ fn may_rename(access: u8) -> bool
 }
 
 // Whether an entry was found that stands elsewhere.
-fn is_other(found: Found, place: Place) -> bool
+fn is_other(found: Option<(Place, Entry)>, place: Place) -> bool
     ensures { result ≡ is_other_place found place }
 {
     match found {
-        Found::Missing => false,
-        Found::At(at, _) => {
-            if at.block == place.block {
-                return at.slot != place.slot;
-            }
-            true
-        }
+        Some((at, _)) => at != place,
+        None => false,
     }
 }
 
@@ -74,15 +69,15 @@ fn put_names(img: &mut [u8], start: usize, kind: Kind, name: &[u8])
 }
 
 // $4E; then the volume's new name.
-fn rename_volume(img: &mut [u8], name: &[u8]) -> Answer
+fn rename_volume(img: &mut [u8], name: &[u8]) -> Result<(), Refusal>
     requires { (1536 ≤ length img.old) × (length name.now ≤ 15) }
     ensures { Does (volume_renamed (view img.old) (view name.now) (length name.now)) (length img.old) result img.new }
 {
     if !may_rename(img[VOLUME_HEADER + ACCESS]) {
-        return Answer::Refused(Refusal::Locked);
+        return Err(Refusal::Locked);
     }
     put_new_name(img, VOLUME_HEADER, name);
-    Answer::Done
+    Ok(())
 }
 
 // $47 and $4E; then the entry's new name, and its backup bit.
@@ -93,7 +88,7 @@ fn rename_entry(
     place: Place,
     entry: Entry,
     name: &[u8],
-) -> Answer
+) -> Result<(), Refusal>
     requires { (length name.now ≤ 15) × Held n (length img.old) (view img.old) home place entry }
     ensures { Does (entry_renamed (view img.old) home place entry (view name.now) (length name.now)) (length img.old) result img.new }
 {
@@ -101,33 +96,26 @@ fn rename_entry(
     let used = home.used as usize;
     let found = directory::find_in(img, n, key, used, name);
     if is_other(found, place) {
-        return Answer::Refused(Refusal::Duplicate);
+        return Err(Refusal::Duplicate);
     }
     let access = entry.access;
     if !may_rename(access) {
-        return Answer::Refused(Refusal::Locked);
+        return Err(Refusal::Locked);
     }
     let start = directory::slot_at(place);
     let kind = entry.kind;
     put_names(img, start, kind, name);
     store::put_byte(img, start + ACCESS, entries::backed_up(access));
-    Answer::Done
+    Ok(())
 }
 
 // Rename: the last name of a path becomes the one given.
-pub fn rename(img: &mut [u8], path: &[u8], name: &[u8]) -> Answer
+pub fn rename(img: &mut [u8], path: &[u8], name: &[u8]) -> Result<(), Refusal>
     ensures { Does (renameCall (length img.old) (view img.old) (view path.now) (length path.now) (view name.now) (length name.now)) (length img.old) result img.new }
 {
     let fit = names::is_proper_name(name);
-    match opening::opened_if(img, path, fit, Refusal::BadPath) {
-        Opened::Refused(why) => {
-            return Answer::Refused(why);
-        }
-        Opened::Volume(_) => {
-            return rename_volume(img, name);
-        }
-        Opened::Entry(n, home, place, entry) => {
-            return rename_entry(img, n, home, place, entry, name);
-        }
+    match opening::opened_if(img, path, fit, Refusal::BadPath)? {
+        Opened::Volume(_) => rename_volume(img, name),
+        Opened::Entry(n, home, place, entry) => rename_entry(img, n, home, place, entry, name),
     }
 }

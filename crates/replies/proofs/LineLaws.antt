@@ -1,20 +1,22 @@
 -- A line's parts one by one: fields, hex digits, a digest, a buffer, and which line an answer prints. Assumes nothing.
-use Prim.Native.Nat.{ℕ, suc, ◌+◌, ◌-◌, ◌%◌, ◌≤◌, ◌<◌}
+use Prim.Native.Nat.{ℕ, suc, ◌+◌, ◌-◌, ◌/◌, ◌%◌, ◌≤◌, ◌<◌}
 use mathlib.Core.Path.{◌≡◌, refl}
 use mathlib.Core.List.{List, [], ◌∷◌, ◌++◌}
 use native.Mathlib.Omega.{arith}
-use lib.Bits.{bit_xor, xor_lt}
+use mir.Syntax.{w32}
+use Rattle.std.specs.Int.{to_be_bytes}
 use borrow.Author.Tests.{eq-eqb, ne_eqb, le-leb, lt-leb}
-use Rattle.model.specs.Bytes.{Bytes}
+use Rattle.model.specs.Bytes.{Bytes, view}
 use Rattle.model.specs.Catalog.{space', decimal, hex_byte, refused_line}
 use Rattle.model.specs.Refusals.{refusal_number}
 use Rattle.model.specs.declared.Refusal.{Refusal}
 use Rattle.model.proofs.RefusalLaws.{number_refuses}
 use Rattle.replies.specs.Lines.{field_text, fields_text, hex_text, mixed, digest_from, digest, digest_text, buffer_text, reply}
 
--- An exclusive or with a byte stays below 2^32.
-pub xor_small : (h x : ℕ) → h < 4294967296 → x < 256 → bit_xor h x < 4294967296
-xor_small h x p q = xor_lt 32 h x p (omega arith)
+-- A digest of 32 bits is the hex digits of its four bytes.
+pub digest_hex : (h : ℕ) → h < 4294967296 → hex_text (view (to_be_bytes w32 h)) 0 4 ≡ digest_text h
+unfolding hex_text digest_text
+digest_hex h l = let e : h / 16777216 % 256 ≡ h / 16777216 = omega arith in rw e
 
 -- One field.
 module _ (form x : ℕ) where

@@ -5,13 +5,13 @@ ghost use Rattle.std.specs.Prelude.{◌≡◌, [], ◌∷◌, ◌≤◌, length}
 ghost use Rattle.model.specs.Bytes.{view};
 ghost use Rattle.model.specs.Catalog.{refused_line};
 ghost use Rattle.model.specs.Refusals.{refusal_number};
-ghost use Rattle.model.specs.Answers.{answer_number, transfer_number, transferred, info_number, info_told, space_answer_number, space_told};
+ghost use Rattle.model.specs.Answers.{answer_number, transferred, info_told, space_told};
 ghost use Rattle.ink.specs.Ink.{sheet, Prints};
 ghost use Rattle.replies.specs.Lines.{field_text, fields_text, ok_line, bad_line, reply, info_forms, info_values, hex_text, digest_text, buffer_text, read_line, digest_line, bytes_line};
 ghost use Rattle.replies.specs.Lines.{mixed as Lines·mixed, digest as Lines·digest, number as Lines·number};
 
 use ink::Ink;
-use model::{Answer, Info, InfoAnswer, Refusal, SpaceAnswer, Transfer};
+use model::{Info, Refusal, Space};
 
 const NEWLINE: u8 = 10;
 
@@ -37,10 +37,8 @@ fn put_fields(page: &mut [u8], ink: Ink, forms: &[u8], values: &[usize]) -> Ink
     ensures { Prints (fields_text (view forms.now) (view values.now) 0 (length forms.now)) (sheet ink page.old) (sheet result page.new) }
 {
     let mut now = ink;
-    let mut i = 0;
-    while i < forms.len() {
-        now = put_field(page, now, forms[i], values[i]);
-        i += 1;
+    for (form, value) in forms.iter().zip(values) {
+        now = put_field(page, now, *form, *value);
     }
     now
 }
@@ -50,30 +48,27 @@ fn put_hex(page: &mut [u8], ink: Ink, run: &[u8]) -> Ink
     ensures { Prints (hex_text (view run.now) 0 (length run.now)) (sheet ink page.old) (sheet result page.new) }
 {
     let mut now = ink;
-    let mut i = 0;
-    while i < run.len() {
-        now = ink::emit_hex_byte(page, now, run[i]);
-        i += 1;
+    for byte in run {
+        now = ink::emit_hex_byte(page, now, *byte);
     }
     now
 }
 
 // One byte more of a digest: exclusive or, then a multiplication modulo 2^32.
+#[tactic(auto, unfolding(crate::specs::Lines::mixed))]
 fn mixed(hash: u32, byte: u8) -> u32
     ensures { result ≡ Lines·mixed hash byte }
 {
-    ((hash ^ byte as u32) as u64 * 16777619 % 4294967296) as u32
+    (hash ^ u32::from(byte)).wrapping_mul(16777619)
 }
 
 // FNV-1a of 32 bits.
 fn digest(run: &[u8]) -> u32
     ensures { result ≡ Lines·digest (view run.now) (length run.now) }
 {
-    let mut hash: u32 = 2166136261;
-    let mut i = 0;
-    while i < run.len() {
-        hash = mixed(hash, run[i]);
-        i += 1;
+    let mut hash = 2166136261;
+    for byte in run {
+        hash = mixed(hash, *byte);
     }
     hash
 }
@@ -82,11 +77,7 @@ fn digest(run: &[u8]) -> u32
 fn put_digest(page: &mut [u8], ink: Ink, run: &[u8]) -> Ink
     ensures { Prints (digest_text (Lines·digest (view run.now) (length run.now))) (sheet ink page.old) (sheet result page.new) }
 {
-    let hash = digest(run);
-    let first = ink::emit_hex_byte(page, ink, (hash / 16777216) as u8);
-    let second = ink::emit_hex_byte(page, first, (hash / 65536 % 256) as u8);
-    let third = ink::emit_hex_byte(page, second, (hash / 256 % 256) as u8);
-    ink::emit_hex_byte(page, third, (hash % 256) as u8)
+    put_hex(page, ink, &digest(run).to_be_bytes())
 }
 
 // `OK`, a value for each form, and the end of the line.
@@ -103,7 +94,7 @@ pub fn say_refused(page: &mut [u8], ink: Ink, why: Refusal) -> Ink
     ensures { Prints (refused_line (refusal_number why)) (sheet ink page.old) (sheet result page.new) }
 {
     let word = ink::emit_run(page, ink, b"REFUSED ", 0, 8);
-    let number = ink::emit_hex_byte(page, word, model::refusal_number(why));
+    let number = ink::emit_hex_byte(page, word, u8::from(why));
     ink::emit_byte(page, number, NEWLINE)
 }
 
@@ -115,36 +106,31 @@ pub fn say_bad_line(page: &mut [u8], ink: Ink, number: usize) -> Ink
     ink::emit_byte(page, counted, NEWLINE)
 }
 
-pub fn say_answer(page: &mut [u8], ink: Ink, answer: Answer) -> Ink
+pub fn say_answer(page: &mut [u8], ink: Ink, answer: Result<(), Refusal>) -> Ink
     ensures { Prints (reply (answer_number answer) (ok_line [] [])) (sheet ink page.old) (sheet result page.new) }
 {
     match answer {
-        Answer::Done => say_ok(page, ink, b"", &[]),
-        Answer::Refused(why) => say_refused(page, ink, why),
+        Ok(()) => say_ok(page, ink, b"", &[]),
+        Err(why) => say_refused(page, ink, why),
     }
 }
 
 // The answer of write.
-pub fn say_transfer(page: &mut [u8], ink: Ink, answer: Transfer) -> Ink
-    ensures { Prints (reply (transfer_number answer) (ok_line (Lines·number ∷ []) (transferred answer ∷ []))) (sheet ink page.old) (sheet result page.new) }
+pub fn say_transfer(page: &mut [u8], ink: Ink, answer: Result<usize, Refusal>) -> Ink
+    ensures { Prints (reply (answer_number answer) (ok_line (Lines·number ∷ []) (transferred answer ∷ []))) (sheet ink page.old) (sheet result page.new) }
 {
     match answer {
-        Transfer::Moved(count) => say_ok(page, ink, b"N", &[count]),
-        Transfer::Refused(why) => say_refused(page, ink, why),
+        Ok(count) => say_ok(page, ink, b"N", &[count]),
+        Err(why) => say_refused(page, ink, why),
     }
 }
 
-pub fn say_space(page: &mut [u8], ink: Ink, answer: SpaceAnswer) -> Ink
-    ensures { Prints (reply (space_answer_number answer) (ok_line (Lines·number ∷ Lines·number ∷ []) ((space_told answer).total ∷ (space_told answer).unused ∷ []))) (sheet ink page.old) (sheet result page.new) }
+pub fn say_space(page: &mut [u8], ink: Ink, answer: Result<Space, Refusal>) -> Ink
+    ensures { Prints (reply (answer_number answer) (ok_line (Lines·number ∷ Lines·number ∷ []) ((space_told answer).total ∷ (space_told answer).unused ∷ []))) (sheet ink page.old) (sheet result page.new) }
 {
     match answer {
-        SpaceAnswer::Blocks { total, free } => say_ok(
-            page,
-            ink,
-            b"NN",
-            &[total as usize, free as usize],
-        ),
-        SpaceAnswer::Refused(why) => say_refused(page, ink, why),
+        Ok(Space { total, free }) => say_ok(page, ink, b"NN", &[total as usize, free as usize]),
+        Err(why) => say_refused(page, ink, why),
     }
 }
 
@@ -152,8 +138,6 @@ pub fn say_space(page: &mut [u8], ink: Ink, answer: SpaceAnswer) -> Ink
 fn say_told(page: &mut [u8], ink: Ink, info: Info) -> Ink
     ensures { Prints (ok_line info_forms (info_values info)) (sheet ink page.old) (sheet result page.new) }
 {
-    let created = info.created;
-    let modified = info.modified;
     let values = [
         info.kind as usize,
         info.ftype as usize,
@@ -161,20 +145,20 @@ fn say_told(page: &mut [u8], ink: Ink, info: Info) -> Ink
         info.aux as usize,
         info.used as usize,
         info.eof as usize,
-        created.date as usize,
-        created.time as usize,
-        modified.date as usize,
-        modified.time as usize,
+        info.created.date as usize,
+        info.created.time as usize,
+        info.modified.date as usize,
+        info.modified.time as usize,
     ];
     say_ok(page, ink, b"BBBNNNNNNN", &values)
 }
 
-pub fn say_info(page: &mut [u8], ink: Ink, answer: InfoAnswer) -> Ink
-    ensures { Prints (reply (info_number answer) (ok_line info_forms (info_values (info_told answer)))) (sheet ink page.old) (sheet result page.new) }
+pub fn say_info(page: &mut [u8], ink: Ink, answer: Result<Info, Refusal>) -> Ink
+    ensures { Prints (reply (answer_number answer) (ok_line info_forms (info_values (info_told answer)))) (sheet ink page.old) (sheet result page.new) }
 {
     match answer {
-        InfoAnswer::Told(info) => say_told(page, ink, info),
-        InfoAnswer::Refused(why) => say_refused(page, ink, why),
+        Ok(info) => say_told(page, ink, info),
+        Err(why) => say_refused(page, ink, why),
     }
 }
 
@@ -182,7 +166,7 @@ pub fn say_info(page: &mut [u8], ink: Ink, answer: InfoAnswer) -> Ink
 fn put_buffer(page: &mut [u8], ink: Ink, buffer: &[u8]) -> Ink
     ensures { Prints (buffer_text (view buffer.now) (length buffer.now)) (sheet ink page.old) (sheet result page.new) }
 {
-    if buffer.len() == 0 {
+    if buffer.is_empty() {
         return ink::emit_byte(page, ink, b'-');
     }
     if buffer.len() <= MOST_SHOWN {
@@ -203,12 +187,12 @@ fn say_moved(page: &mut [u8], ink: Ink, count: usize, buffer: &[u8]) -> Ink
 }
 
 // The answer of read, and the buffer.
-pub fn say_read(page: &mut [u8], ink: Ink, answer: Transfer, buffer: &[u8]) -> Ink
-    ensures { Prints (reply (transfer_number answer) (read_line (transferred answer) (view buffer.now) (length buffer.now))) (sheet ink page.old) (sheet result page.new) }
+pub fn say_read(page: &mut [u8], ink: Ink, answer: Result<usize, Refusal>, buffer: &[u8]) -> Ink
+    ensures { Prints (reply (answer_number answer) (read_line (transferred answer) (view buffer.now) (length buffer.now))) (sheet ink page.old) (sheet result page.new) }
 {
     match answer {
-        Transfer::Moved(count) => say_moved(page, ink, count, buffer),
-        Transfer::Refused(why) => say_refused(page, ink, why),
+        Ok(count) => say_moved(page, ink, count, buffer),
+        Err(why) => say_refused(page, ink, why),
     }
 }
 

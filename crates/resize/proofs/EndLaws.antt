@@ -1,4 +1,5 @@
 -- What set EOF answers: row by row for the entry at a place, and by what the path leads to. Assumes nothing.
+use Rattle.std.specs.Prelude.{Result, Ok, Err}
 use Prim.Native.Nat.{ℕ, ◌+◌, ◌-◌, ◌≤◌, ◌<◌, ◌/◌, ◌%◌}
 use mathlib.Core.Path.{◌≡◌, refl, sym, ap, ◌∙◌}
 use mathlib.Core.List.{List, [], ◌∷◌}
@@ -15,7 +16,6 @@ use Rattle.model.specs.Refusals.{refusal_number, Row, row, first, settle}
 use Rattle.model.specs.Calls.{total, target, spot, not_data, allows, write_bit, nothing}
 use Rattle.model.specs.SetEof.{eof_set, set_eof_number, set_eof}
 use Rattle.model.specs.Answers.{Does}
-use Rattle.model.specs.declared.Answer.TheVariants as answer
 use Rattle.model.specs.declared.Refusal.{Refusal}
 use Rattle.model.specs.declared.Refusal.TheVariants.{BadKind}
 use Rattle.model.specs.declared.Entry.{Entry}
@@ -89,14 +89,14 @@ module _ {n : ℕ} {v : Bytes} {p : Place} {x : Entry} (T : Told n v p x) (e : �
 
 -- The outcome.
 module _ (n s e : ℕ) (t : Stamp) (l : List ℕ) where
-  pub end_no : (r : Refusal) → first (end_rows n (view l) e s) ≡ refusal_number r → Does (end_set n (view l) s e t) (length l) (answer.Refused r) l
+  pub end_no : (r : Refusal) → first (end_rows n (view l) e s) ≡ refusal_number r → Does (end_set n (view l) s e t) (length l) (Err r) l
   unfolding end_set settle
   end_no r z =
       let o = settle_refused (first (end_rows n (view l) e s)) nothing (view l) nothing (eof_set (map_block (view l)) n (view l) s e t) (λ q. number_refuses r (sym z ∙ q)) in
       record { said = sym z; size = refl; bytes = sym o.1 }
 
   pub end_done : (m : List ℕ) → first (end_rows n (view l) e s) ≡ 0 → map_block (view l) ≡ map_place → length m ≡ length l
-      → view m ≡ eof_set map_place n (view l) s e t → Does (end_set n (view l) s e t) (length l) answer.Done m
+      → view m ≡ eof_set map_place n (view l) s e t → Does (end_set n (view l) s e t) (length l) (Ok tt) m
   unfolding end_set settle
   end_done m z q k b =
       let o = settle_accepted (first (end_rows n (view l) e s)) nothing (view l) nothing (eof_set (map_block (view l)) n (view l) s e t) z in
@@ -110,7 +110,7 @@ set_eof_number_law len v p k e = opened_first len v p k (end_rows (total len) v 
 
 module _ (p : Bytes) (k e : ℕ) (t : Stamp) (l : List ℕ) where
   abbrev Answers : Refusal → Type 0
-  Answers r = Does (set_eof (length l) (view l) p k e t) (length l) (answer.Refused r) l
+  Answers r = Does (set_eof (length l) (view l) p k e t) (length l) (Err r) l
 
   set_eof_no : (r : Refusal) → set_eof_number (length l) (view l) p k e (target (view l) p k) ≡ refusal_number r → Answers r
   unfolding set_eof settle
@@ -119,17 +119,17 @@ module _ (p : Bytes) (k e : ℕ) (t : Stamp) (l : List ℕ) where
       let o = settle_refused (set_eof_number (length l) (view l) p k e x) nothing (view l) nothing (eof_set (map_block (view l)) (total (length l)) (view l) (spot x) e t) (λ q. number_refuses r (sym z ∙ q)) in
       record { said = sym z; size = refl; bytes = sym o.1 }
 
-  abbrev after : Opened → ℕ
+  abbrev after : Result Opened Refusal → ℕ
   after o = opened_or o (first (end_rows (total (length l)) (view l) e (spot (target (view l) p k))))
 
-  pub set_eof_refused : (r : Refusal) → opened_by (length l) (view l) p k ≡ opened.Refused r → Answers r
+  pub set_eof_refused : (r : Refusal) → opened_by (length l) (view l) p k ≡ Err r → Answers r
   set_eof_refused r q = set_eof_no r (set_eof_number_law (length l) (view l) p k e ∙ ap after q)
 
   volume_number : (n : ℕ) (v : Bytes) → first (end_rows n v e volume) ≡ 0x4B
   unfolding first end_rows sort
   volume_number n v = refl
 
-  pub set_eof_volume : (n : ℕ) → opened_by (length l) (view l) p k ≡ opened.Volume n → Answers BadKind
+  pub set_eof_volume : (n : ℕ) → opened_by (length l) (view l) p k ≡ Ok (opened.Volume n) → Answers BadKind
   set_eof_volume n q =
       set_eof_no BadKind
       (set_eof_number_law (length l) (view l) p k e
@@ -141,7 +141,7 @@ module _ (p : Bytes) (k e : ℕ) (t : Stamp) (l : List ℕ) where
       end_number n v s = first (end_rows n v e s)
 
 pub set_eof_entry : (len : ℕ) (v p : Bytes) (k e : ℕ) (t : Stamp) (n : ℕ) (h : Home) (s : Place) (x : Entry) → Octets v
-    → opened_by len v p k ≡ opened.Entry n h s x → Fits len v n × (set_eof len v p k e t ≡ end_set n v (place_number s) e t) × Told n v s x
+    → opened_by len v p k ≡ Ok (opened.Entry n h s x) → Fits len v n × (set_eof len v p k e t ≡ end_set n v (place_number s) e t) × Told n v s x
 unfolding set_eof end_set
 set_eof_entry len v p k e t n h s x octets q =
     let o = opened_entry len v p k n h s x octets q in

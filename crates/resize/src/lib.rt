@@ -15,7 +15,7 @@ ghost use Rattle.opening.specs.Sorts.{height_of};
 ghost use Rattle.held.specs.Held.{Held, Told};
 ghost use Rattle.resize.specs.Ends.{end_set, resized, resized_key};
 
-use model::{Answer, Entry, Place, Refusal, Stamp};
+use model::{Entry, Place, Refusal, Stamp};
 use opening::Opened;
 
 const MAP_BLOCK: usize = 6;
@@ -82,36 +82,35 @@ fn set_entry(
     entry: Entry,
     eof: usize,
     stamp: Stamp,
-) -> Answer
+) -> Result<(), Refusal>
     requires { (length img.old ≡ n * 512) × Told n (view img.old) place entry }
     ensures { Does (end_set n (view img.old) (place_number place) eof stamp) (length img.old) result img.new }
 {
     let kind = entry.kind;
     let height = opening::height_of(kind);
     if height == 3 {
-        return Answer::Refused(Refusal::BadKind);
+        return Err(Refusal::BadKind);
     }
     if entry.access / 2 % 2 == 0 {
-        return Answer::Refused(Refusal::Locked);
+        return Err(Refusal::Locked);
     }
     if EOF_MOST < eof {
-        return Answer::Refused(Refusal::BadPosition);
+        return Err(Refusal::BadPosition);
     }
     let free = map::free_blocks(img, MAP_BLOCK, n);
     if free + height < directory::height_for(eof) {
-        return Answer::Refused(Refusal::NoRoom);
+        return Err(Refusal::NoRoom);
     }
     set_end(img, n, place, entry, free, eof, stamp);
-    Answer::Done
+    Ok(())
 }
 
 // Set EOF of the file that a path names.
-pub fn set_eof(img: &mut [u8], path: &[u8], eof: usize, stamp: Stamp) -> Answer
+pub fn set_eof(img: &mut [u8], path: &[u8], eof: usize, stamp: Stamp) -> Result<(), Refusal>
     ensures { Does (set_eof (length img.old) (view img.old) (view path.now) (length path.now) eof stamp) (length img.old) result img.new }
 {
-    match opening::opened_by(img, path) {
-        Opened::Refused(why) => Answer::Refused(why),
-        Opened::Volume(_) => Answer::Refused(Refusal::BadKind),
+    match opening::opened_by(img, path)? {
+        Opened::Volume(_) => Err(Refusal::BadKind),
         Opened::Entry(n, _, place, entry) => set_entry(img, n, place, entry, eof, stamp),
     }
 }

@@ -1,131 +1,113 @@
 -- A field of any form, and one field after the other: what reading leaves, case by case. Assumes nothing.
 use mathlib.Core.Path.{◌≡◌, refl, sym, ap, ◌∙◌}
-use Prim.Native.Nat.{ℕ, suc, ◌+◌, ◌-◌, ◌≤◌, ◌<◌}
+use mathlib.Core.List.{List, ◌∷◌, ◌++◌}
+use Prim.Native.Nat.{ℕ, zero, suc, ◌+◌, ◌-◌, ◌≤◌, ◌<◌}
+use lib.ListN.{length, drop, take}
 use native.Mathlib.Omega.{arith}
-use borrow.Author.Tests.{ne_eqb, le-leb, lt-leb, lt-ltb, le-ltb}
-use Rattle.model.specs.Bytes.{Bytes, put}
+use borrow.Author.Tests.{ne_eqb, lt-ltb, le-ltb}
+use Rattle.std.proofs.Common.{Some, None, add-one}
+use Rattle.std.proofs.Math.Seq.{drop-cons}
+use Rattle.model.specs.Bytes.{Bytes, view, put, paste}
 use Rattle.model.specs.Catalog.{space'}
-use Rattle.model.proofs.ByteLaws.{at_or_off}
-use Rattle.script.specs.Fields.{largest, bad, text_most, end_at, number_value, half_value, byte_value, pairs, data_size, text_size, text_bytes, put_text, put_data, field_value, field_room, field_buffer, Fields, nowhere, field_read, read_field, read_fields}
+use Rattle.model.proofs.ByteLaws.{at_or_off, paste_paste, part_self, view_part}
+use Rattle.script.specs.Fields.{text_most, end_at, field, pairs, data_size, text_size, text_bytes, sized, field_value, field_room, field_buffer, Fields, nowhere, valued, field_read, read_field, read_fields}
 use Rattle.script.proofs.FieldLaws.{paste_bad}
 
--- the value v of a field, with the texts and the data that it leaves
-abbrev pub Taken : Bytes → ℕ → ℕ → ℕ → ℕ → Bytes → Bytes → ℕ → Bytes → Bytes → Type 0
-Taken s a k most form room buffer v room' buffer' =
-    (v ≡ field_value s a k most form) × ((room' ≡ field_room s a k form room) × (buffer' ≡ field_buffer s a k most form buffer))
+-- the bytes of a field, as a part of the line
+pub field_is : (l : List ℕ) (a k : ℕ) → a + k ≤ length l → field (view l) a k ≡ take k (drop a l)
+unfolding field
+field_is l a zero h = refl
+field_is l a (suc k) h =
+    ap (λ xs. view l a ∷ xs) (field_is l (a + 1) k (omega arith) ∙ ap (λ n. take k (drop n l)) (add-one a))
+    ∙ ap (take (suc k)) (sym (drop-cons l a 0 (omega arith)))
 
-module _ (s : Bytes) (a k most : ℕ) (room buffer : Bytes) (form v : ℕ) where
-  pub taken_number : form ≡ 78 → v ≡ number_value s a k → Taken s a k most form room buffer v room buffer
-  unfolding field_value field_room field_buffer
-  taken_number e p = rw e (p, (refl, refl))
+-- a run put into a part of a room is put into the room
+pub part_pasted : (xs ys : List ℕ) (a k m : ℕ) (g : Bytes) → a + k ≤ length xs → length ys ≡ k → m ≤ k
+    → view ys ≡ paste (view (take k (drop a xs))) 0 m g → view (take a xs ++ (ys ++ drop k (drop a xs))) ≡ paste (view xs) a m g
+part_pasted xs ys a k m g fits len most e =
+    let z : a + 0 ≡ a = omega arith in
+    view_part xs ys a k fits len
+    ∙ ap (paste (view xs) a k) e
+    ∙ paste_paste (view xs) a k (view (take k (drop a xs))) 0 m g (omega arith)
+    ∙ ap (λ f. paste f (a + 0) m g) (part_self xs a k)
+    ∙ ap (λ b. paste (view xs) b m g) z
 
-  pub taken_half : form ≡ 72 → v ≡ half_value s a k → Taken s a k most form room buffer v room buffer
-  unfolding field_value field_room field_buffer
-  taken_half e p = rw e (p, (refl, refl))
-
-  pub taken_byte : form ≡ 66 → v ≡ byte_value s a k → Taken s a k most form room buffer v room buffer
-  unfolding field_value field_room field_buffer
-  taken_byte e p = rw e (p, (refl, refl))
-
-  pub taken_data : (bytes : Bytes) → form ≡ 68 → v ≡ data_size s a k most → bytes ≡ put_data s a k most buffer
-      → Taken s a k most form room buffer v room bytes
-  unfolding field_value field_room field_buffer
-  taken_data bytes e p q = rw e (p, (refl, q))
-
-  pub taken_text : (text : Bytes) → form ≡ 84 → v ≡ text_size s a k → text ≡ put_text s a k room 0
-      → Taken s a k most form room buffer v text buffer
-  unfolding field_value field_room field_buffer
-  taken_text text e p q = rw e (p, (q, refl))
-
-  pub taken_second : (text : Bytes) → form ≡ 83 → v ≡ text_size s a k → text ≡ put_text s a k room text_most
-      → Taken s a k most form room buffer v text buffer
-  unfolding field_value field_room field_buffer
-  taken_second text e p q = rw e (p, (q, refl))
-
--- a form that is none of these
-module _ (s : Bytes) (a k most : ℕ) (room buffer : Bytes) (form : ℕ) where
-  pub taken_none : (form ≡ 78 → ⊥) → (form ≡ 72 → ⊥) → (form ≡ 66 → ⊥) → (form ≡ 68 → ⊥) → (form ≡ 84 → ⊥) → (form ≡ 83 → ⊥)
-      → Taken s a k most form room buffer bad room buffer
-  unfolding field_value field_room field_buffer
-  taken_none n h b d t u =
-      rw (ne_eqb form 78 n, ne_eqb form 72 h, ne_eqb form 66 b, ne_eqb form 68 d, ne_eqb form 84 t, ne_eqb form 83 u, field_value, field_room, field_buffer)
-      (refl, (refl, refl))
-
-  -- a bad field leaves texts and data as they are
-  value_text : form ≡ 84 → field_value s a k most form ≡ text_size s a k
+-- a bad field leaves texts and data as they are
+module _ (cs : List ℕ) (most : ℕ) (room buffer : Bytes) (form : ℕ) where
+  value_text : form ≡ 84 → field_value cs most form ≡ text_size cs
   unfolding field_value
   value_text e = rw e
 
-  value_second : form ≡ 83 → field_value s a k most form ≡ text_size s a k
+  value_second : form ≡ 83 → field_value cs most form ≡ text_size cs
   unfolding field_value
   value_second e = rw e
 
-  value_data : form ≡ 68 → field_value s a k most form ≡ data_size s a k most
+  value_data : form ≡ 68 → field_value cs most form ≡ data_size cs most
   unfolding field_value
   value_data e = rw e
 
-  room_bad : largest < field_value s a k most form → room ≡ field_room s a k form room
+  pub room_bad : field_value cs most form ≡ None → room ≡ field_room cs form room
   unfolding field_room
   room_bad p =
       at_or_off form 84
-      (λ e. rw e (paste_bad room 0 (text_size s a k) (text_bytes s a) (omega (arith, value_text e))))
+      (λ e. rw e (paste_bad room 0 (text_size cs) (text_bytes cs) (ap sized (sym (value_text e) ∙ p))))
       (λ n. at_or_off form 83
-      (λ e. rw e (paste_bad room text_most (text_size s a k) (text_bytes s a) (omega (arith, value_second e))))
+      (λ e. rw e (paste_bad room text_most (text_size cs) (text_bytes cs) (ap sized (sym (value_second e) ∙ p))))
       (λ m. rw (ne_eqb form 84 n, ne_eqb form 83 m, field_room)))
 
-  buffer_bad : largest < field_value s a k most form → buffer ≡ field_buffer s a k most form buffer
+  pub buffer_bad : field_value cs most form ≡ None → buffer ≡ field_buffer cs most form buffer
   unfolding field_buffer
   buffer_bad p =
       at_or_off form 68
-      (λ e. rw e (paste_bad buffer 0 (data_size s a k most) (pairs s a) (omega (arith, value_data e))))
+      (λ e. rw e (paste_bad buffer 0 (data_size cs most) (pairs cs) (ap sized (sym (value_data e) ∙ p))))
       (λ n. rw (ne_eqb form 68 n, field_buffer))
 
 -- one field
-abbrev pub found : ℕ → Bytes → Bytes → Bytes → Fields
-found e values room buffer = record { at = e; values = values; room = room; buffer = buffer }
-
-abbrev pub lost : Fields → Fields
-lost f = found nowhere f.values f.room f.buffer
+abbrev pub fields : ℕ → Bytes → Bytes → Bytes → Fields
+fields e values room buffer = record { at = e; values = values; room = room; buffer = buffer }
 
 module _ (s : Bytes) (n most form i : ℕ) (f : Fields) where
-  pub read_past : n ≤ f.at → lost f ≡ read_field s n most form i f
+  pub read_past : n ≤ f.at → read_field s n most form i f ≡ fields nowhere f.values f.room f.buffer
   unfolding read_field
   read_past p = rw (le-ltb _ _ p, read_field)
 
-  read_in : f.at < n → field_read s n most form i f (end_at s n space' (f.at + 1)) ≡ read_field s n most form i f
-  unfolding read_field
-  read_in p = rw (lt-ltb _ _ p, read_field)
+  pub read_in : (e : ℕ) (cs : List ℕ) → e ≡ end_at s n space' (f.at + 1) → cs ≡ field s (f.at + 1) (e - (f.at + 1)) → f.at < n
+      → read_field s n most form i f ≡ valued cs most form i e f (field_value cs most form)
+  unfolding read_field field_read
+  read_in e cs p q h = rw (lt-ltb _ _ h, q, p, read_field)
 
-  module _ (e v : ℕ) (room buffer : Bytes) (t : Taken s (f.at + 1) (e - (f.at + 1)) most form f.room f.buffer v room buffer) where
-    at_good : (values : Bytes) → values ≡ put f.values i v → v ≤ largest → found e values room buffer ≡ field_read s n most form i f e
-    unfolding field_read
-    at_good values w p =
-        let q : field_value s (f.at + 1) (e - (f.at + 1)) most form ≤ largest = omega (arith, t.0) in
-        rw (w, t.0, t.1.0, t.1.1, le-leb _ _ q, field_read)
+module _ (s : Bytes) (n most form i a : ℕ) (values room buffer room' buffer' : Bytes) (e : ℕ) (cs : List ℕ)
+    (p : e ≡ end_at s n space' (a + 1)) (q : cs ≡ field s (a + 1) (e - (a + 1))) (h : a < n)
+    (r : room' ≡ field_room cs form room) (b : buffer' ≡ field_buffer cs most form buffer) where
+  pub read_good : (v : ℕ) → Some v ≡ field_value cs most form
+      → fields e (put values i v) room' buffer' ≡ read_field s n most form i (fields a values room buffer)
+  read_good v w =
+      let f = fields a values room buffer in
+      rw (r, b) (ap (valued cs most form i e f) w) ∙ sym (read_in s n most form i f e cs p q h)
 
-    at_bad : largest < v → found nowhere f.values room buffer ≡ field_read s n most form i f e
-    unfolding field_read
-    at_bad p =
-        let a = f.at + 1 in
-        let q : largest < field_value s a (e - a) most form = omega (arith, t.0) in
-        let r : room ≡ f.room = t.1.0 ∙ sym (room_bad s a (e - a) most f.room f.buffer form q) in
-        let b : buffer ≡ f.buffer = t.1.1 ∙ sym (buffer_bad s a (e - a) most f.room f.buffer form q) in
-        rw (r, b, lt-leb _ _ q, field_read)
-
-    module _ (p : f.at < n) (end : e ≡ end_at s n space' (f.at + 1)) where
-      pub read_good : (values : Bytes) → values ≡ put f.values i v → v ≤ largest → found e values room buffer ≡ read_field s n most form i f
-      read_good values w q = at_good values w q ∙ ap (field_read s n most form i f) end ∙ read_in p
-
-      pub read_bad : largest < v → found nowhere f.values room buffer ≡ read_field s n most form i f
-      read_bad q = at_bad q ∙ ap (field_read s n most form i f) end ∙ read_in p
+  pub read_bad : None ≡ field_value cs most form → fields nowhere values room' buffer' ≡ read_field s n most form i (fields a values room buffer)
+  read_bad w =
+      let f = fields a values room buffer in
+      let r' : room' ≡ room = r ∙ sym (room_bad cs most room buffer form (sym w)) in
+      let b' : buffer' ≡ buffer = b ∙ sym (buffer_bad cs most room buffer form (sym w)) in
+      rw (r', b') (ap (valued cs most form i e f) w) ∙ sym (read_in s n most form i f e cs p q h)
 
 -- one field after the other
-module _ (s : Bytes) (n most : ℕ) (forms : Bytes) (i : ℕ) where
-  pub read_more : (k m : ℕ) (f g : Fields) → k ≡ suc m → g ≡ read_field s n most (forms i) i f
+module _ (s : Bytes) (n most : ℕ) (forms : Bytes) where
+  pub read_more : (i k m : ℕ) (f g : Fields) → k ≡ suc m → g ≡ read_field s n most (forms i) i f
       → read_fields s n most forms (i + 1) m g ≡ read_fields s n most forms i k f
   unfolding read_fields
-  read_more k m f g e p = rw (e, p)
+  read_more i k m f g e p = rw (e, p)
 
-  pub read_none : (f : Fields) → read_fields s n most forms i 0 f ≡ f
+  pub read_none : (i : ℕ) (f : Fields) → read_fields s n most forms i 0 f ≡ f
   unfolding read_fields
-  read_none f = refl
+  read_none i f = refl
+
+  -- no field follows a bad one
+  pub read_lost : (k i : ℕ) (values room buffer : Bytes) → n ≤ nowhere
+      → read_fields s n most forms i k (fields nowhere values room buffer) ≡ fields nowhere values room buffer
+  unfolding read_fields
+  read_lost zero i values room buffer l = refl
+  read_lost (suc k) i values room buffer l =
+      ap (read_fields s n most forms (i + 1) k) (read_past s n most (forms i) i (fields nowhere values room buffer) l)
+      ∙ read_lost k (i + 1) values room buffer l

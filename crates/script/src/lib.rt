@@ -2,18 +2,17 @@
 // A field that is bad leaves what was lent as it is, and leads nowhere: no field follows, and no line is done there.
 #![tactic(auto)]
 
-ghost use Rattle.std.specs.Prelude.{◌≡◌, true, ◌+◌, ◌-◌, ◌*◌, ◌≤◌, ◌<◌, eqb, length};
-ghost use Rattle.model.specs.Bytes.{view, paste, from};
+ghost use Rattle.std.specs.Prelude.{◌≡◌, true, ℕ, ◌+◌, ◌-◌, ◌/◌, ◌%◌, ◌≤◌, ◌<◌, eqb, length};
+ghost use Rattle.model.specs.Bytes.{Bytes, view, paste};
 ghost use Rattle.model.specs.Catalog.{newline, space'};
-ghost use Rattle.script.specs.Fields.{text_most, end_at, is_word, digit_value, number_value, half_value, pair_value, byte_value, all_pairs, pairs, pairs_size, all_plain, plain_size, is_dash, data_size, text_size, sized, put_text, put_data, field_value, field_room, field_buffer, Fields, read_field, read_fields, Takes, Fits};
+ghost use Rattle.script.specs.Fields.{text_most, end_at, is_word, number_value, half_value, pair_value, byte_value, all_digits, pairs, pairs_size, all_plain, plain_size, data_size, text_size, sized, put_text, put_data, field_value, field_room, field_buffer, found, Fields, read_field, read_fields, Takes, Fits};
 
-const SPACE: u8 = 32;
+const SPACE: u8 = b' ';
 
-const NEWLINE: u8 = 10;
+const NEWLINE: u8 = b'\n';
 
-const DASH: u8 = 45;
-
-const EQUALS: u8 = 61;
+// A field for no bytes.
+const DASH: &[u8] = b"-";
 
 // The most bytes of a text, and the room for two of them.
 pub const TEXT: usize = 128;
@@ -23,14 +22,10 @@ pub const ROOM: usize = 256;
 // The most fields of a line.
 pub const FIELDS: usize = 8;
 
-// No number in a script is larger; any larger value says that a field is bad.
-const LARGEST: usize = 4294967295;
-
-const BAD: usize = 4294967296;
+// No number in a script is larger, and none has more digits.
+const LARGEST: usize = u32::MAX as usize;
 
 const MOST_DIGITS: usize = 10;
-
-const NOWHERE: usize = usize::MAX;
 
 // Where the line that starts at a place ends.
 pub fn line_end(script: &[u8], start: usize) -> usize
@@ -52,276 +47,176 @@ pub fn word_end(line: &[u8]) -> usize
 pub fn is_word(line: &[u8], end: usize, word: &[u8]) -> bool
     ensures { result ≡ is_word (view line.now) (length line.now) end (view word.now) (length word.now) }
 {
-    if end != word.len() {
-        return false;
-    }
-    if line.len() < end {
-        return false;
-    }
-    store::same_bytes(line, 0, word, 0, end)
-}
-
-// The value of a hex digit; 16 for any other byte.
-fn digit_value(c: u8) -> usize
-    ensures value { result ≡ digit_value c }
-    ensures upper_bound { result ≤ 16 }
-{
-    match c {
-        b'0'..=b'9' => (c - 48) as usize,
-        b'A'..=b'F' => (c - 55) as usize,
-        b'a'..=b'f' => (c - 87) as usize,
-        _ => 16,
-    }
+    end <= line.len() && &line[..end] == word
 }
 
 // The number that 1 to 10 decimal digits say.
-fn number_value(line: &[u8], start: usize, end: usize) -> usize
-    requires { (start ≤ end) × (end ≤ length line.now) }
-    ensures { result ≡ number_value (view line.now) start (end - start) }
+fn number_value(field: &[u8]) -> Option<usize>
+    ensures { result ≡ number_value field.now }
 {
-    let size = end - start;
-    if size == 0 {
-        return BAD;
+    if field.is_empty() || MOST_DIGITS < field.len() {
+        return None;
     }
-    if MOST_DIGITS < size {
-        return BAD;
+    let mut value = 0;
+    for c in field {
+        value = 10 * value + char::from(*c).to_digit(10)? as usize;
     }
-    let mut value: usize = 0;
-    let mut at = start;
-    while at < end {
-        let digit = digit_value(line[at]);
-        if 9 < digit {
-            return BAD;
-        }
-        value = 10 * value + digit;
-        at += 1;
-    }
-    value
+    Some(value).filter(|value| *value <= LARGEST)
 }
 
 // A number below 65,536.
-fn half_value(line: &[u8], start: usize, end: usize) -> usize
-    requires { (start ≤ end) × (end ≤ length line.now) }
-    ensures { result ≡ half_value (view line.now) start (end - start) }
+#[tactic(auto, unfolding(crate::specs::Fields::half_value, crate::specs::Fields::at_most))]
+fn half_value(field: &[u8]) -> Option<usize>
+    ensures { result ≡ half_value field.now }
 {
-    let value = number_value(line, start, end);
-    if 65535 < value {
-        return BAD;
-    }
-    value
+    number_value(field).filter(|value| *value <= 65535)
 }
 
 // The byte that two hex digits say.
-fn pair_value(line: &[u8], at: usize) -> usize
-    requires { at + 1 < length line.now }
-    ensures { result ≡ pair_value (view line.now) at }
+#[tactic(auto, using(crate::proofs::FieldLaws::digit_by), unfolding(crate::specs::Fields::pair_value))]
+fn pair_value(high: u8, low: u8) -> Option<u8>
+    ensures { result ≡ pair_value high low }
 {
-    let high = digit_value(line[at]);
-    let low = digit_value(line[at + 1]);
-    if 15 < high {
-        return BAD;
-    }
-    if 15 < low {
-        return BAD;
-    }
-    16 * high + low
+    let high = char::from(high).to_digit(16)?;
+    let low = char::from(low).to_digit(16)?;
+    Some((16 * high + low) as u8)
 }
 
 // Exactly two hex digits.
-fn byte_value(line: &[u8], start: usize, end: usize) -> usize
-    requires { (start ≤ end) × (end ≤ length line.now) }
-    ensures { result ≡ byte_value (view line.now) start (end - start) }
+#[tactic(auto, unfolding(crate::specs::Fields::byte_value))]
+fn byte_value(field: &[u8]) -> Option<usize>
+    ensures { result ≡ byte_value field.now }
 {
-    if end - start != 2 {
-        return BAD;
-    }
-    pair_value(line, start)
-}
-
-// Are the bytes from `start` on `count` pairs of hex digits?
-fn all_pairs(line: &[u8], start: usize, count: usize) -> bool
-    requires { start + 2 * count ≤ length line.now }
-    ensures { result ≡ all_pairs (view line.now) start count }
-{
-    let mut seen = 0;
-    while seen < count {
-        if LARGEST < pair_value(line, start + 2 * seen) {
-            return false;
-        }
-        seen += 1;
-    }
-    true
-}
-
-// Puts the bytes that `count` pairs of hex digits say into a room.
-fn put_pairs(line: &[u8], start: usize, count: usize, room: &mut [u8], to: usize)
-    requires { (start + 2 * count ≤ length line.now) × (to + count ≤ length room.old) × (all_pairs (view line.now) start count ≡ true) }
-    ensures { view room.new ≡ paste (view room.old) to count (pairs (view line.now) start) }
-{
-    let mut done = 0;
-    while done < count {
-        room[to + done] = pair_value(line, start + 2 * done) as u8;
-        done += 1;
+    match field {
+        [high, low] => pair_value(*high, *low).map(usize::from),
+        _ => None,
     }
 }
 
-// Pairs of hex digits, none included, up to `end`: puts the bytes they say into a room, at most `most`; how many.
-fn take_pairs(
-    line: &[u8],
-    start: usize,
-    end: usize,
-    room: &mut [u8],
-    to: usize,
-    most: usize,
-) -> usize
-    requires { (start ≤ end) × (end ≤ length line.now) × (length line.now ≤ 4096) × (to + most ≤ length room.old) }
-    ensures value { result ≡ pairs_size (view line.now) start (end - start) most }
-    ensures room_after { view room.new ≡ paste (view room.old) to (sized result) (pairs (view line.now) start) }
+// Are there hex digits alone?
+fn all_digits(field: &[u8]) -> bool
+    ensures { result ≡ all_digits field.now }
 {
-    let size = end - start;
-    if size % 2 != 0 {
-        return BAD;
+    field.iter().all(|c| c.is_ascii_hexdigit())
+}
+
+// Puts the bytes that pairs of hex digits say into a room.
+fn put_pairs(digits: &[u8], room: &mut [u8])
+    requires { (length digits.now % 2 ≡ 0) × (length digits.now / 2 ≤ length room.old) × (all_digits digits.now ≡ true) }
+    ensures { view room.new ≡ paste (view room.old) 0 (length digits.now / 2) (pairs digits.now) }
+{
+    for (i, pair) in digits.chunks_exact(2).enumerate() {
+        room[i] = pair_value(pair[0], pair[1]).unwrap();
     }
-    let count = size / 2;
-    if most < count {
-        return BAD;
+}
+
+// Pairs of hex digits, none included: puts the bytes they say into a room; how many.
+fn take_pairs(digits: &[u8], room: &mut [u8]) -> Option<usize>
+    requires { length digits.now ≤ 4096 }
+    ensures value { result ≡ pairs_size digits.now (length room.old) }
+    ensures room_after { view room.new ≡ paste (view room.old) 0 (sized result) (pairs digits.now) }
+{
+    let count = digits.len() / 2;
+    if digits.len() % 2 != 0 || room.len() < count || !all_digits(digits) {
+        return None;
     }
-    if !all_pairs(line, start, count) {
-        return BAD;
-    }
-    put_pairs(line, start, count, room, to);
-    count
+    put_pairs(digits, room);
+    Some(count)
 }
 
 // Is each of the bytes $21 to $7E?
-fn all_plain(line: &[u8], start: usize, end: usize) -> bool
-    requires { (start ≤ end) × (end ≤ length line.now) }
-    ensures { result ≡ all_plain (view line.now) start (end - start) }
+fn all_plain(field: &[u8]) -> bool
+    ensures { result ≡ all_plain field.now }
 {
-    let mut at = start;
-    while at < end {
-        if line[at] < 0x21 {
-            return false;
-        }
-        if 0x7E < line[at] {
-            return false;
-        }
-        at += 1;
-    }
-    true
+    field.iter().all(|c| c.is_ascii_graphic())
 }
 
 // The bytes of a field themselves.
-fn take_plain(line: &[u8], start: usize, end: usize, room: &mut [u8], to: usize) -> usize
-    requires { (start ≤ end) × (end ≤ length line.now) × (to + text_most ≤ length room.old) }
-    ensures value { result ≡ plain_size (view line.now) start (end - start) }
-    ensures room_after { view room.new ≡ paste (view room.old) to (sized result) (from (view line.now) start) }
+fn take_plain(field: &[u8], room: &mut [u8]) -> Option<usize>
+    requires { length room.old ≡ text_most }
+    ensures value { result ≡ plain_size field.now }
+    ensures room_after { view room.new ≡ paste (view room.old) 0 (sized result) (view field.now) }
 {
-    let count = end - start;
-    if TEXT < count {
-        return BAD;
+    if room.len() < field.len() || !all_plain(field) {
+        return None;
     }
-    if !all_plain(line, start, end) {
-        return BAD;
-    }
-    store::copy_run(room, to, line, start, count);
-    count
-}
-
-// Is a field a dash alone?
-fn is_dash(line: &[u8], start: usize, end: usize) -> bool
-    requires { (start < end) × (end ≤ length line.now) }
-    ensures { result ≡ is_dash (view line.now) start (end - start) }
-{
-    if end - start != 1 {
-        return false;
-    }
-    line[start] == DASH
+    room[..field.len()].copy_from_slice(field);
+    Some(field.len())
 }
 
 // DATA: pairs of hex digits, or a dash for no bytes.
-fn take_data(line: &[u8], start: usize, end: usize, buffer: &mut [u8]) -> usize
-    requires { (start ≤ end) × (end ≤ length line.now) × (length line.now ≤ 4096) }
-    ensures value { result ≡ data_size (view line.now) start (end - start) (length buffer.old) }
-    ensures buffer_after { view buffer.new ≡ put_data (view line.now) start (end - start) (length buffer.old) (view buffer.old) }
+#[tactic(auto, using(crate::proofs::FieldLaws::dash_by, crate::proofs::FieldLaws::paste_bad), unfolding(crate::specs::Fields::data_size))]
+fn take_data(field: &[u8], buffer: &mut [u8]) -> Option<usize>
+    requires { length field.now ≤ 4096 }
+    ensures value { result ≡ data_size field.now (length buffer.old) }
+    ensures buffer_after { view buffer.new ≡ put_data field.now (length buffer.old) (view buffer.old) }
 {
-    if end == start {
-        return BAD;
+    if field.is_empty() {
+        return None;
     }
-    if is_dash(line, start, end) {
-        return 0;
+    if field == DASH {
+        return Some(0);
     }
-    let most = buffer.len();
-    take_pairs(line, start, end, buffer, 0, most)
+    take_pairs(field, buffer)
 }
 
 // A PATH or a NAME: itself, an equals sign and pairs of hex digits, or a dash for no bytes.
-fn take_text(line: &[u8], start: usize, end: usize, room: &mut [u8], to: usize) -> usize
-    requires { (start ≤ end) × (end ≤ length line.now) × (length line.now ≤ 4096) × (to + text_most ≤ length room.old) }
-    ensures value { result ≡ text_size (view line.now) start (end - start) }
-    ensures room_after { view room.new ≡ put_text (view line.now) start (end - start) (view room.old) to }
+#[tactic(auto, using(crate::proofs::FieldLaws::dash_by, crate::proofs::FieldLaws::rest_is, crate::proofs::FieldLaws::paste_bad), unfolding(crate::specs::Fields::text_size, crate::specs::Fields::text_bytes))]
+fn take_text(field: &[u8], room: &mut [u8]) -> Option<usize>
+    requires field_size { length field.now ≤ 4096 }
+    requires room_size { length room.old ≡ text_most }
+    ensures value { result ≡ text_size field.now }
+    ensures room_after { view room.new ≡ put_text field.now (view room.old) 0 }
 {
-    if end == start {
-        return BAD;
+    if field.is_empty() {
+        return None;
     }
-    if is_dash(line, start, end) {
-        return 0;
+    if field == DASH {
+        return Some(0);
     }
-    if line[start] == EQUALS {
-        return take_pairs(line, start + 1, end, room, to, TEXT);
+    if field[0] == b'=' {
+        return take_pairs(&field[1..], room);
     }
-    take_plain(line, start, end, room, to)
+    take_plain(field, room)
 }
 
 // A field of a form: its value, which for data and text is how many bytes it puts into the buffer or the room. A second text goes behind the first.
-fn take_field(
-    line: &[u8],
-    start: usize,
-    end: usize,
-    form: u8,
-    room: &mut [u8],
-    buffer: &mut [u8],
-) -> usize
-    requires { (start ≤ end) × (end ≤ length line.now) × (length line.now ≤ 4096) × (length room.old ≡ 256) }
-    ensures value { result ≡ field_value (view line.now) start (end - start) (length buffer.old) form }
-    ensures room_after { view room.new ≡ field_room (view line.now) start (end - start) form (view room.old) }
-    ensures buffer_after { view buffer.new ≡ field_buffer (view line.now) start (end - start) (length buffer.old) form (view buffer.old) }
+// A form is a byte and no enum: the tables of the forms of each command, in lines, are byte strings as b"TNN".
+#[tactic(auto, unfolding(crate::specs::Fields::field_value, crate::specs::Fields::field_room, crate::specs::Fields::field_buffer))]
+fn take_field(field: &[u8], form: u8, room: &mut [u8], buffer: &mut [u8]) -> Option<usize>
+    requires { (length field.now ≤ 4096) × (length room.old ≡ 256) }
+    ensures value { result ≡ field_value field.now (length buffer.old) form }
+    ensures room_after { view room.new ≡ field_room field.now form (view room.old) }
+    ensures buffer_after { view buffer.new ≡ field_buffer field.now (length buffer.old) form (view buffer.old) }
 {
     match form {
-        b'N' => number_value(line, start, end),
-        b'H' => half_value(line, start, end),
-        b'B' => byte_value(line, start, end),
-        b'D' => take_data(line, start, end, buffer),
-        b'T' => take_text(line, start, end, room, 0),
-        b'S' => take_text(line, start, end, room, TEXT),
-        _ => BAD,
+        b'N' => number_value(field),
+        b'H' => half_value(field),
+        b'B' => byte_value(field),
+        b'D' => take_data(field, buffer),
+        b'T' => take_text(field, &mut room[..TEXT]),
+        b'S' => take_text(field, &mut room[TEXT..]),
+        _ => None,
     }
 }
 
-// Field i, behind a place: where it ends.
+// The field behind a place: its value, and where it ends.
 fn read_field(
     line: &[u8],
     at: usize,
     form: u8,
-    i: usize,
-    values: &mut [usize],
     room: &mut [u8],
     buffer: &mut [u8],
-) -> usize
-    requires { (length line.now ≤ 4096) × (i < length values.old) × (length room.old ≡ 256) }
-    ensures { record { at = result; values = view values.new; room = view room.new; buffer = view buffer.new } ≡ read_field (view line.now) (length line.now) (length buffer.old) form i (record { at = at; values = view values.old; room = view room.old; buffer = view buffer.old }) }
+) -> Option<(usize, usize)>
+    requires { (length line.now ≤ 4096) × (length room.old ≡ 256) }
+    ensures { (i : ℕ) → (values : Bytes) → found i values result (view room.new) (view buffer.new) ≡ read_field (view line.now) (length line.now) (length buffer.old) form i (record { at = at; values = values; room = view room.old; buffer = view buffer.old }) }
 {
     if line.len() <= at {
-        return NOWHERE;
+        return None;
     }
-    let start = at + 1;
-    let end = store::place_of(line, start, SPACE);
-    let value = take_field(line, start, end, form, room, buffer);
-    if LARGEST < value {
-        return NOWHERE;
-    }
-    values[i] = value;
-    end
+    let end = store::place_of(line, at + 1, SPACE);
+    let value = take_field(&line[at + 1..end], form, room, buffer)?;
+    Some((value, end))
 }
 
 // Reads the fields behind a place, one for each form, to the end of the line: are they good, and is none left?
@@ -338,10 +233,13 @@ pub fn read_fields(
     ensures fits { result ≡ true → Fits (length buffer.old) (view forms.now) (length forms.now) (view values.new) }
 {
     let mut now = at;
-    let mut i = 0;
-    while i < forms.len() {
-        now = read_field(line, now, forms[i], i, values, room, buffer);
-        i += 1;
+    // By index, and not over a zip with iter_mut(): of what that writes the proof knows the length alone.
+    for (i, form) in forms.iter().enumerate() {
+        let Some((value, end)) = read_field(line, now, *form, room, buffer) else {
+            return false;
+        };
+        values[i] = value;
+        now = end;
     }
     now == line.len()
 }

@@ -7,7 +7,7 @@ ghost use Rattle.model.specs.Calls.{put_stamp};
 ghost use Rattle.model.specs.Info.{set_info};
 ghost use Rattle.model.specs.Answers.{Does};
 
-use model::{Answer, Refusal, Stamp};
+use model::{Refusal, Stamp};
 use opening::Opened;
 
 // Access, aux and modified stamp of the slot that begins at `start`.
@@ -21,21 +21,21 @@ fn put_info(img: &mut [u8], start: usize, access: u8, aux: u16, modified: Stamp)
 }
 
 // Set info: access, aux and modified stamp as given.
-pub fn set_info(img: &mut [u8], path: &[u8], access: u8, aux: u16, modified: Stamp) -> Answer
+pub fn set_info(
+    img: &mut [u8],
+    path: &[u8],
+    access: u8,
+    aux: u16,
+    modified: Stamp,
+) -> Result<(), Refusal>
     ensures { Does (set_info (length img.old) (view img.old) (view path.now) (length path.now) access aux modified) (length img.old) result img.new }
 {
     let fit = access / 4 % 8 == 0;
-    match opening::opened_if(img, path, fit, Refusal::BadType) {
-        Opened::Refused(why) => {
-            return Answer::Refused(why);
-        }
-        Opened::Volume(_) => {
-            return Answer::Refused(Refusal::Locked);
-        }
+    match opening::opened_if(img, path, fit, Refusal::BadType)? {
+        Opened::Volume(_) => Err(Refusal::Locked),
         Opened::Entry(_, _, place, _) => {
-            let start = directory::slot_at(place);
-            put_info(img, start, access, aux, modified);
-            return Answer::Done;
+            put_info(img, directory::slot_at(place), access, aux, modified);
+            Ok(())
         }
     }
 }

@@ -1,6 +1,6 @@
 -- Shrinking step by step: each step leaves a tree that fits, and is one unfolding of its definition. Assumes nothing.
-use Prim.Native.Nat.{ℕ, suc, ◌+◌, ◌-◌, ◌*◌, ◌≤◌, ◌<◌}
-use mathlib.Core.Path.{◌≡◌, refl, ap, ◌∙◌}
+use Prim.Native.Nat.{ℕ, zero, suc, ◌+◌, ◌-◌, ◌*◌, ◌%◌, ◌^◌, ◌≤◌, ◌<◌}
+use mathlib.Core.Path.{◌≡◌, refl, sym, ap, ◌∙◌}
 use mathlib.Core.List.{◌∷◌, ◌++◌}
 use mathlib.Core.Bool.{Bool, true, false}
 use lib.Dec.{eqb, leb}
@@ -11,7 +11,7 @@ use Rattle.model.specs.Directory.{map_place}
 use Rattle.model.specs.File.{pointer, put_pointer, first_below, nodes, blocks_in}
 use Rattle.model.specs.Calls.{given_all}
 use Rattle.model.specs.SetEof.{lowered, heir, sunk, sunk_key, each_pointer, trimmed, pruned}
-use Rattle.model.proofs.Laws.Move.{Fit, move_fit, fit_below, lift}
+use Rattle.model.proofs.Laws.Move.{Fit, move_fit, fit_key, fit_below, lift}
 use Rattle.model.proofs.Laws.Give.{lowered_move, sunk_move}
 use Rattle.model.proofs.Laws.Prune.{prune, prune_move, cut_move}
 use Rattle.release.specs.Loose.{Loose, tree, limb_at, below}
@@ -34,9 +34,6 @@ pub record Sinking (n : ℕ) (v : Bytes) (h k c : ℕ) (w : Bytes) (l d : ℕ) :
   pub fits : Fit n w (d + h) 0 l
 
 module _ (n : ℕ) (v : Bytes) (h k c : ℕ) where
-  pub sink_start : Fit n v (c + h) 0 k → Sinking n v h k c v k c
-  sink_start F = record { image = refl; last = refl; fits = F }
-
   module _ (w : Bytes) (l d : ℕ) (S : Sinking n v h k c w l d) where
     pub sink_fit : 0 < d → Fit n w (suc (d - 1 + h)) 0 l
     sink_fit p = let e : suc (d - 1 + h) ≡ d + h = omega arith in rw e S.fits
@@ -92,23 +89,83 @@ trim_fit n e h q k i v F il = go (eqb (pointer v k i) 0) refl (leb e (first_belo
         rw (trim_early P e h q k i v full early)
         (move_fit F (lift F il full (prune_move (prune n e h (q * 256 + i) (pointer v k i) v (fit_below F il full) early))))
 
+-- The number of a part and the first file block below it, where the whole begins below 65,536: a shift by 8 bits for each height.
+number_low : (h q : ℕ) → q ≤ first_below h q
+unfolding first_below
+number_low zero q = omega arith
+number_low (suc h) q = omega (arith, number_low h (q * 256))
+
+pub number_small : (h q : ℕ) → first_below h q < 65536 → q < 65536
+number_small h q l = omega (arith, number_low h q)
+
+pub key_first : (h : ℕ) → first_below h 0 ≡ 0
+unfolding first_below
+key_first zero = refl
+key_first (suc h) = key_first h
+
+pub part_first : (h q i : ℕ) → h < 2 → i < 256 → first_below (suc h) q < 65536 → first_below h (q * 256 + i) < 65536
+unfolding first_below
+part_first zero q i b il l = omega arith
+part_first (suc zero) q i b il l = omega arith
+part_first (suc (suc h)) q i b il l = absurd (omega arith)
+
+pub first_shift : (h q : ℕ) → h < 2 → first_below h q < 65536 → q * 2 ^ (8 * h) % 18446744073709551616 ≡ first_below h q
+unfolding first_below
+first_shift zero q b l = omega arith
+first_shift (suc zero) q b l = omega arith
+first_shift (suc (suc h)) q b l = absurd (omega arith)
+
 -- The loop over the pointers: those below i are done.
 pub record Trimming (n e h q k : ℕ) (v : Bytes) (i : ℕ) (w : Bytes) : Type 0 where
   pub done : w ≡ each_pointer i (λ i x. trimmed map_place (λ y r c. pruned map_place e y h r c) e h q k i x) v
   pub fits : Fit n w (suc h) q k
+  pub on_volume : k < n
 
 module _ (n e h q k : ℕ) (v : Bytes) where
   pub trim_start : Fit n v (suc h) q k → Trimming n e h q k v 0 v
   unfolding each_pointer
-  trim_start F = record { done = refl; fits = F }
+  trim_start F = record { done = refl; fits = F; on_volume = fit_key F }
 
-  pub trim_on : (i : ℕ) (w w' : Bytes) → Trimming n e h q k v i w → i < 256
-      → w' ≡ trimmed map_place (λ y r c. pruned map_place e y h r c) e h q k i w → Trimming n e h q k v (i + 1) w'
-  unfolding each_pointer
-  trim_on i w w' T l t =
-      let s : i + 1 ≡ suc i = omega arith in
-      record { done = rw s (t ∙ ap (trimmed map_place (λ y r c. pruned map_place e y h r c) e h q k i) T.done); fits = rw t (trim_fit n e h q k i w T.fits l) }
+  module _ (i : ℕ) (w : Bytes) (T : Trimming n e h q k v i w) where
+    pub trim_end : 256 ≤ i → i ≤ 256 → w ≡ pruned map_place e v (suc h) q k
+    unfolding pruned
+    trim_end m l = let s : i ≡ 256 = omega arith in rw s at T.done
 
-  pub trim_end : (i : ℕ) (w : Bytes) → Trimming n e h q k v i w → i ≡ 256 → w ≡ pruned map_place e v (suc h) q k
-  unfolding pruned
-  trim_end i w T s = rw s at T.done
+    module _ (l : i < 256) (p : ℕ) (is_pointer : p ≡ pointer w k i) where
+      P : Bytes → ℕ → ℕ → Bytes
+      P y r c = pruned map_place e y h r c
+
+      on : (w' : Bytes) → w' ≡ trimmed map_place P e h q k i w → Trimming n e h q k v (i + 1) w'
+      unfolding P each_pointer
+      on w' t =
+          let s : i + 1 ≡ suc i = omega arith in
+          record {
+            done = rw s (t ∙ ap (trimmed map_place P e h q k i) T.done);
+            fits = rw t (trim_fit n e h q k i w T.fits l);
+            on_volume = T.on_volume;
+          }
+
+      pub trim_over : p ≡ 0 → Trimming n e h q k v (i + 1) w
+      trim_over z = on w (sym (trim_hole P e h q k i w (sym is_pointer ∙ z)))
+
+      module _ (full : p ≡ 0 → ⊥) where
+        there : pointer w k i ≡ 0 → ⊥
+        there z = full (is_pointer ∙ z)
+
+        pub part_fit : Fit n w h (q * 256 + i) p
+        part_fit = rw is_pointer (fit_below T.fits l there)
+
+        pub part_loose : Loose n (tree w h p)
+        part_loose = tree_loose n w h (q * 256 + i) p part_fit
+
+        pub trim_freed : e ≤ first_below h (q * 256 + i) → (x w' : Bytes) → x ≡ given_all map_place w (tree w h p) → w' ≡ put_pointer x k i 0
+            → Trimming n e h q k v (i + 1) w'
+        trim_freed b x w' g c =
+            on w' (c ∙ ap (λ (f : Bytes). put_pointer f k i 0)
+            (g ∙ ap (given_all map_place w) (number_free w h 0 (q * 256 + i) p)
+            ∙ ap (λ (p : ℕ). given_all map_place w (blocks_in (nodes w h (q * 256 + i) p))) is_pointer)
+            ∙ sym (trim_late P e h q k i w there b))
+
+        pub trim_deeper : first_below h (q * 256 + i) < e → (w' : Bytes) → w' ≡ pruned map_place e w h (q * 256 + i) p → Trimming n e h q k v (i + 1) w'
+        unfolding P
+        trim_deeper b w' g = on w' (g ∙ ap (pruned map_place e w h (q * 256 + i)) is_pointer ∙ sym (trim_early P e h q k i w there b))

@@ -5,15 +5,15 @@
 ghost use Rattle.std.specs.Prelude.{◌≡◌, suc, ◌+◌, ◌-◌, ◌*◌, ◌≤◌, ◌<◌, length};
 ghost use Rattle.model.specs.Bytes.{view};
 ghost use Rattle.model.specs.Directory.{map_place};
-ghost use Rattle.model.specs.File.{pointer, put_pointer, nodes, blocks_in};
-ghost use Rattle.model.specs.Calls.{given_all};
-ghost use Rattle.model.specs.SetEof.{lowered, heir, sunk, sunk_key, trimmed, pruned};
+ghost use Rattle.model.specs.File.{first_below};
+ghost use Rattle.model.specs.SetEof.{lowered, heir, sunk, sunk_key, pruned};
 ghost use Rattle.model.proofs.Laws.Move.{Fit};
 
 const MAP_BLOCK: usize = 6;
 
 // A key with blocks of the height `below` under it gives way: the block under its pointer 0 is the new key, or, where that is a hole, the key
 // itself, zeroed. Answers the new key.
+#[tactic(auto, using(model::proofs::Laws::Move::fit_key), unfolding(model::specs::Map::map_at))]
 fn lower(img: &mut [u8], n: usize, below: usize, key: usize) -> usize
     requires { (length img.old ≡ n * 512) × (below < 2) × Fit n (view img.old) (suc below) 0 key }
     ensures img_after { view img.new ≡ lowered map_place (view img.old) below key }
@@ -36,88 +36,45 @@ fn sink(img: &mut [u8], n: usize, to: usize, key: usize, count: usize) -> usize
     ensures value { result ≡ sunk_key map_place (view img.old) to key count }
 {
     let mut heir = key;
-    let mut left = count;
-    while 0 < left {
-        left -= 1;
-        heir = lower(img, n, left + to, heir);
+    for below in (to..to + count).rev() {
+        heir = lower(img, n, below, heir);
     }
     heir
 }
 
-// What lies below pointer i of a block, whose number among those of its height is given, is freed; the pointer becomes 0.
-fn cut(img: &mut [u8], n: usize, below: usize, number: usize, block: usize, i: usize)
-    requires img_len { (length img.old ≡ n * 512) × (below < 2) × (i < 256) × Fit n (view img.old) (suc below) number block }
-    requires fact { pointer (view img.old) block i ≡ 0 → ⊥ }
-    ensures { view img.new ≡ put_pointer (given_all map_place (view img.old) (blocks_in (nodes (view img.old) below (number * 256 + i) (pointer (view img.old) block i)))) block i 0 }
+// Below a block of a height, whose number among those of its height is given, the file blocks from the end on are freed: a block with nothing
+// before the end goes with all below it, another is gone through.
+#[tactic(auto, using(crate::proofs::Laws::number_small))]
+fn prune_part(img: &mut [u8], n: usize, end: usize, height: usize, number: usize, block: usize)
+    requires { (length img.old ≡ n * 512) × (height < 3) × (first_below height number < 65536) × Fit n (view img.old) height number block }
+    ensures { view img.new ≡ pruned map_place end (view img.old) height number block }
 {
-    let child = store::get_pointer(img, block, i);
-    release::give_tree(img, n, below, child);
-    growth::put_pointer(img, block, i, 0);
-}
-
-// Pointer i of an index: a data block is freed where its number is not below the end.
-fn trim_data(img: &mut [u8], n: usize, end: usize, number: usize, block: usize, i: usize)
-    requires { (length img.old ≡ n * 512) × (number < 256) × (i < 256) × Fit n (view img.old) 1 number block }
-    ensures { view img.new ≡ trimmed map_place (λ y r c. pruned map_place end y 0 r c) end 0 number block i (view img.old) }
-{
-    if store::get_pointer(img, block, i) == 0 {
+    if height == 0 {
         return;
     }
-    if end <= number * 256 + i {
-        cut(img, n, 0, number, block, i);
-    }
-}
-
-// The data blocks of an index from the end on.
-fn prune_index(img: &mut [u8], n: usize, end: usize, number: usize, block: usize)
-    requires { (length img.old ≡ n * 512) × (number < 256) × Fit n (view img.old) 1 number block }
-    ensures { view img.new ≡ pruned map_place end (view img.old) 1 number block }
-{
-    let mut i = 0;
-    while i < 256 {
-        trim_data(img, n, end, number, block, i);
-        i += 1;
-    }
-}
-
-// Pointer i of a master index: an index with nothing before the end is freed with its data blocks, another is trimmed.
-fn trim_index(img: &mut [u8], n: usize, end: usize, block: usize, i: usize)
-    requires { (length img.old ≡ n * 512) × (i < 256) × Fit n (view img.old) 2 0 block }
-    ensures { view img.new ≡ trimmed map_place (λ y r c. pruned map_place end y 1 r c) end 1 0 block i (view img.old) }
-{
-    let index = store::get_pointer(img, block, i);
-    if index == 0 {
-        return;
-    }
-    if end <= i * 256 {
-        cut(img, n, 1, 0, block, i);
-        return;
-    }
-    prune_index(img, n, end, i, index);
-}
-
-// All file blocks of a tree from the end on.
-fn prune_master(img: &mut [u8], n: usize, end: usize, block: usize)
-    requires { (length img.old ≡ n * 512) × Fit n (view img.old) 2 0 block }
-    ensures { view img.new ≡ pruned map_place end (view img.old) 2 0 block }
-{
-    let mut i = 0;
-    while i < 256 {
-        trim_index(img, n, end, block, i);
-        i += 1;
+    let below = height - 1;
+    for i in 0..256 {
+        let child = store::get_pointer(img, block, i);
+        if child == 0 {
+            continue;
+        }
+        let part = number * 256 + i;
+        if end <= part << (8 * below) {
+            release::give_tree(img, n, below, child);
+            growth::put_pointer(img, block, i, 0);
+        } else {
+            prune_part(img, n, end, below, part, child);
+        }
     }
 }
 
 // The file blocks from the end on are freed.
+#[tactic(auto, using(crate::proofs::Laws::key_first))]
 fn prune(img: &mut [u8], n: usize, end: usize, height: usize, key: usize)
     requires { (length img.old ≡ n * 512) × (height < 3) × Fit n (view img.old) height 0 key }
     ensures { view img.new ≡ pruned map_place end (view img.old) height 0 key }
 {
-    match height {
-        0 => {}
-        1 => prune_index(img, n, end, 0, key),
-        _ => prune_master(img, n, end, key),
-    }
+    prune_part(img, n, end, height, 0, key);
 }
 
 // A file of a height and a key becomes one of the height `to` with nothing from file block `end` on. Answers its key.

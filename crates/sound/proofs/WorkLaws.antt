@@ -442,6 +442,19 @@ module _ (n : ℕ) (v : Bytes) (l k u : ℕ) (s s' : Seen) where
       → outcome a s' ≡ claim n (directory_work v l k u) s
   list_right a q e = ap (λ (a : Bool). outcome a s') q ∙ must_last n s' _ ∙ sym (taken n _ _ s s' true refl e)
 
+-- The slots of the blocks still to come, in the first of them from a place on.
+abbrev pub still : Bytes → ℕ → ℕ → ℕ → List ℕ
+still v place block zero = []
+still v place block (suc after) = ahead v place block after
+
+pub still_some : (v : Bytes) (place block left k : ℕ) → k + 1 ≡ left → still v place block left ≡ ahead v place block k
+still_some v place block left k h = let e : left ≡ suc k = omega arith in ap (still v place block) e
+
+still_slots : (v : Bytes) (b left : ℕ) → still v (b * 13) b left ≡ slots (chain v b left)
+unfolding slots chain
+still_slots v b zero = refl
+still_slots v b (suc after) = let e : suc after - 1 ≡ after = omega arith in rw e at (sym (slots_chain v b (suc after) (omega arith)))
+
 -- The entries of a directory, one by one.
 module _ (n : ℕ) (v : Bytes) (l k place block after : ℕ) where
   pub entries_step : (seen seen' : Seen) (r : Bool) → place < block * 13 + 13 → outcome r seen' ≡ claim n (entry_work v l k place) seen → r ≡ true
@@ -454,18 +467,17 @@ module _ (n : ℕ) (v : Bytes) (l k place block after : ℕ) where
   unfolding gather
   entries_wrong seen seen' r h a f = rw (ahead_step v place block after h) (sym (refused n _ _ seen seen' r f a))
 
-  pub entries_done : (seen : Seen) → block * 13 + 13 ≤ place → after ≡ 0
-      → some seen ≡ claim n (gather (entry_work v l k) (ahead v place block after)) seen
-  unfolding gather claim slots chain
-  entries_done seen h z = rw (ahead_end v place block after h, z)
+  pub entries_next : (seen : Seen) (b : ℕ) → block * 13 + 13 ≤ place → b ≡ next v block
+      → claim n (gather (entry_work v l k) (still v (b * 13) b after)) seen ≡ claim n (gather (entry_work v l k) (ahead v place block after)) seen
+  entries_next seen b h e = rw (ahead_end v place block after h, ← e, still_slots v b after)
 
-  pub entries_next : (seen : Seen) (b : ℕ) → block * 13 + 13 ≤ place → 0 < after → b ≡ next v block
-      → claim n (gather (entry_work v l k) (ahead v (b * 13) b (after - 1))) seen ≡ claim n (gather (entry_work v l k) (ahead v place block after)) seen
-  entries_next seen b h z e = rw (ahead_end v place block after h, ← e, slots_chain v b after z)
+module _ (n : ℕ) (v : Bytes) (l k : ℕ) (seen : Seen) where
+  pub entries_start : (u : ℕ) → 0 < u → claim n (gather (entry_work v l k) (still v (k * 13 + 1) k u)) seen ≡ claim n (list_work v l k u) seen
+  entries_start u h = rw (still_some v (k * 13 + 1) k u (u - 1) (omega arith), entries_chain v k u h)
 
-pub entries_start : (n : ℕ) (v : Bytes) (l k u : ℕ) (seen : Seen) → 0 < u
-    → claim n (gather (entry_work v l k) (ahead v (k * 13 + 1) k (u - 1))) seen ≡ claim n (list_work v l k u) seen
-entries_start n v l k u seen h = rw (entries_chain v k u h)
+  pub entries_done : (place block left : ℕ) → left ≡ 0 → some seen ≡ claim n (gather (entry_work v l k) (still v place block left)) seen
+  unfolding gather claim
+  entries_done place block left z = rw z
 
 -- The claims of the volume are those of its own slot with all that is below it.
 module _ (v : Bytes) where

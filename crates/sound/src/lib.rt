@@ -15,15 +15,9 @@ ghost use Rattle.directory.specs.Slots.{slot_says};
 ghost use Rattle.directory.specs.Search.{listed};
 ghost use Rattle.sound.specs.Work.{Ready, Unclaimed, KeyAt, Stands, Describes, volume_entry, standing, file_work, chain_work, entry_work, directory_work, right_of, Leads, decision};
 
+use checks::{BLOCK, Node, SLOT_SIZE, SLOTS, Scratch};
 use directory::Slot;
-use marks::Took;
 use model::{Entry, Kind, Stamp};
-
-const BLOCK: usize = 512;
-
-const SLOT_SIZE: usize = 39;
-
-const SLOTS: usize = 13;
 
 const VOLUME: usize = 26;
 
@@ -36,6 +30,7 @@ const LEVELS: usize = 32;
 const DIRECTORY_TYPE: u8 = 0x0F;
 
 // What the claims of a slot by itself come to: one failed, nothing is below it, or a directory's entries are, by its key and length.
+// An enum: the cases are three, and `Option<Option<(usize, usize)>>` would name none of them.
 #[derive(Clone, Copy)]
 enum Own {
     Wrong,
@@ -44,11 +39,11 @@ enum Own {
 }
 
 // The file blocks below EOF, and at least one.
+#[tactic(auto, unfolding(model::specs::File::span))]
 fn file_blocks(eof: u32) -> usize
     ensures { result ≡ span eof }
 {
-    let blocks = (eof as usize + 511) / 512;
-    if blocks < 1 { 1 } else { blocks }
+    (eof as usize).div_ceil(BLOCK).max(1)
 }
 
 fn height_of(eof: u32) -> usize
@@ -76,7 +71,7 @@ fn sound_file(
     if height != height_of(eof) {
         return false;
     }
-    let Took::Count(count) = marks::claim_tree(img, seen, height, key, file_blocks(eof), n) else {
+    let Some(count) = marks::claim_tree(img, seen, height, key, file_blocks(eof), n) else {
         return false;
     };
     entry.used as usize == count
@@ -88,9 +83,10 @@ fn top_right(img: &[u8], n: usize, place: usize, key: usize) -> bool
     ensures { result ≡ eqb (top_faults (view img.now) place) 0 }
 {
     if place == VOLUME {
-        return checks::volume_right(img, n);
+        checks::volume_right(img, n)
+    } else {
+        checks::header_right(img, n, place, key)
     }
-    checks::header_right(img, n, place, key)
 }
 
 // A directory has as many active entries as its header counts.
@@ -115,13 +111,9 @@ fn open_directory(
     ensures seen_after { outcome result (marks seen.new) ≡ claim n (chain_work (view img.now) place key used) (marks seen.old) }
     ensures inside { result ≡ true → Inside n (chain (view img.now) key used) }
 {
-    if !marks::claim_chain(img, seen, key, used, n) {
-        return false;
-    }
-    if !top_right(img, n, place, key) {
-        return false;
-    }
-    count_right(img, n, key, used)
+    marks::claim_chain(img, seen, key, used, n)
+        && top_right(img, n, place, key)
+        && count_right(img, n, key, used)
 }
 
 // The volume as an entry.
@@ -149,8 +141,7 @@ fn stands_at(img: &[u8], n: usize, place: usize) -> Slot
         return Slot::Active(volume_entry());
     }
     let start = checks::address(place);
-    let end = start + SLOT_SIZE;
-    directory::decode(&img[start..end])
+    directory::decode(&img[start..start + SLOT_SIZE])
 }
 
 // The key that an entry names as its directory's.
@@ -169,23 +160,16 @@ fn entry_right(img: &[u8], n: usize, home: usize, place: usize) -> bool
     requires { Readable n img.now × (place < n * 13) }
     ensures { result ≡ (capital_name (view img.now) (at place) and eqb (directory_key (view img.now) place) home) }
 {
-    if !checks::name_right(img, place) {
-        return false;
-    }
-    home_of(img, n, place) == home
+    checks::name_right(img, place) && home_of(img, n, place) == home
 }
 
 // Type, blocks used and EOF are those of a directory.
 fn directory_right(entry: Entry) -> bool
     ensures { result ≡ (eqb entry.ftype directory_type and not (eqb entry.used 0) and eqb entry.eof (entry.used * 512)) }
 {
-    if entry.ftype != DIRECTORY_TYPE {
-        return false;
-    }
-    if entry.used == 0 {
-        return false;
-    }
-    entry.eof as usize == entry.used as usize * BLOCK
+    entry.ftype == DIRECTORY_TYPE
+        && entry.used != 0
+        && entry.eof as usize == entry.used as usize * BLOCK
 }
 
 // The claims of a directory by itself, but for its names.
@@ -204,17 +188,12 @@ fn own_directory(
     ensures seen_after { outcome (right_of (view img.now) result) (marks seen.new) ≡ claim n (claims_of directory (view img.now) levels home place) (marks seen.old) }
     ensures leads { Leads n (view img.now) levels place result }
 {
-    if levels == 0 {
-        return Own::Wrong;
-    }
-    if !entry_right(img, n, home, place) {
-        return Own::Wrong;
-    }
-    if !directory_right(entry) {
-        return Own::Wrong;
-    }
     let used = entry.used as usize;
-    if !open_directory(img, seen, n, place, key, used) {
+    if levels == 0
+        || !entry_right(img, n, home, place)
+        || !directory_right(entry)
+        || !open_directory(img, seen, n, place, key, used)
+    {
         return Own::Wrong;
     }
     Own::Inner(key, used)
@@ -236,13 +215,11 @@ fn own_file(
     ensures seen_after { outcome (right_of (view img.now) result) (marks seen.new) ≡ claim n (claims_of (file height) (view img.now) 0 home place) (marks seen.old) }
     ensures leads { Leads n (view img.now) 0 place result }
 {
-    if !entry_right(img, n, home, place) {
-        return Own::Wrong;
+    if entry_right(img, n, home, place) && sound_file(img, seen, n, height, key, entry) {
+        Own::Whole
+    } else {
+        Own::Wrong
     }
-    if !sound_file(img, seen, n, height, key, entry) {
-        return Own::Wrong;
-    }
-    Own::Whole
 }
 
 // The claims of an active entry by itself.
@@ -259,18 +236,10 @@ fn own_active(
     ensures seen_after { outcome (right_of (view img.now) result) (marks seen.new) ≡ claim n (claims_of (sort (view img.now) place) (view img.now) levels home place) (marks seen.old) }
     ensures leads { Leads n (view img.now) levels place result }
 {
-    let kind = entry.kind;
-    match kind {
-        Kind::Directory(key) => own_directory(
-            img,
-            seen,
-            n,
-            levels,
-            home,
-            place,
-            key as usize,
-            entry,
-        ),
+    match entry.kind {
+        Kind::Directory(key) => {
+            own_directory(img, seen, n, levels, home, place, key as usize, entry)
+        }
         Kind::Seedling(key) => own_file(img, seen, n, home, place, 0, key as usize, entry),
         Kind::Sapling(key) => own_file(img, seen, n, home, place, 1, key as usize, entry),
         Kind::Tree(key) => own_file(img, seen, n, home, place, 2, key as usize, entry),
@@ -297,7 +266,7 @@ fn own_claims(
     }
 }
 
-// Whether a slot of a directory with the key `home` is sound, and all that is below it, with so many levels left. The last three are scratch.
+// Whether a slot of a directory with the key `home` is sound, and all that is below it, with so many levels left.
 #[cycle(sound_directory_sound_entry)]
 fn sound_entry(
     img: &[u8],
@@ -306,9 +275,7 @@ fn sound_entry(
     levels: usize,
     home: usize,
     place: usize,
-    list: &mut [u32],
-    x: &mut [u32],
-    y: &mut [u32],
+    scratch: &mut Scratch<'_>,
 ) -> bool
     requires { Ready n img.now seen.old × (place < n * 13) }
     ensures { outcome result (marks seen.new) ≡ claim n (entry_work (view img.now) levels home place) (marks seen.old) }
@@ -316,13 +283,14 @@ fn sound_entry(
     match own_claims(img, seen, n, levels, home, place) {
         Own::Wrong => false,
         Own::Whole => true,
-        Own::Inner(key, used) => sound_directory(img, seen, n, levels - 1, key, used, list, x, y),
+        Own::Inner(key, used) => sound_directory(img, seen, n, levels - 1, key, used, scratch),
     }
 }
 
 // Whether the entries of a directory of `used` blocks are sound: its header, the first slot, is none of them. Their names are compared last:
 // each active entry has claimed a block of its own then, so that there are fewer of them than blocks, as the scratch is made for.
 #[cycle(sound_directory_sound_entry)]
+#[tactic(auto, using(checks::proofs::Laws::first_inside))]
 fn sound_directory(
     img: &[u8],
     seen: &mut [u8],
@@ -330,131 +298,50 @@ fn sound_directory(
     levels: usize,
     key: usize,
     used: usize,
-    list: &mut [u32],
-    x: &mut [u32],
-    y: &mut [u32],
+    scratch: &mut Scratch<'_>,
 ) -> bool
     requires ready { Ready n img.now seen.old × (0 < used) }
     requires inside { Inside n (chain (view img.now) key used) }
     ensures { outcome result (marks seen.new) ≡ claim n (directory_work (view img.now) levels key used) (marks seen.old) }
 {
     let mut block = key;
-    let mut place = key * SLOTS + 1;
-    let mut after = used - 1;
-    loop {
-        while place < block * SLOTS + SLOTS {
-            if !sound_entry(img, seen, n, levels, key, place, list, x, y) {
+    let mut first = key * SLOTS + 1;
+    for _done in 0..used {
+        for place in first..block * SLOTS + SLOTS {
+            if !sound_entry(img, seen, n, levels, key, place, scratch) {
                 return false;
             }
-            place += 1;
-        }
-        if after == 0 {
-            return checks::unlike(img, n, key, used, list, x, y);
         }
         block = store::get_word(img, block * BLOCK + 2);
-        place = block * SLOTS;
-        after -= 1;
+        first = block * SLOTS;
     }
+    checks::unlike(img, n, key, used, scratch)
 }
 
-// The walk from the volume on, then the map. The last three are scratch.
-fn walk_fits(
-    img: &[u8],
-    seen: &mut [u8; 8192],
-    n: usize,
-    list: &mut [u32],
-    x: &mut [u32],
-    y: &mut [u32],
-) -> bool
+// The walk from the volume on, then the map.
+fn walk_fits(img: &[u8], seen: &mut [u8; 8192], n: usize, scratch: &mut Scratch<'_>) -> bool
     requires { Unclaimed n img.now seen.old }
     ensures { result ≡ decision n (view img.now) }
 {
     marks::reserve(seen, n);
-    if !sound_entry(img, seen, n, LEVELS, VOLUME_BLOCK, VOLUME, list, x, y) {
-        return false;
-    }
-    if !marks::map_right(img, seen, n) {
-        return false;
-    }
-    map::rest_clear(img, MAP_BLOCK, n)
+    sound_entry(img, seen, n, LEVELS, VOLUME_BLOCK, VOLUME, scratch)
+        && marks::map_right(img, seen, n)
+        && map::rest_clear(img, MAP_BLOCK, n)
 }
 
-// The same in scratch for a volume of fewer than 1,024 blocks.
-fn walk_in_1024(
-    img: &[u8],
-    seen: &mut [u8; 8192],
-    n: usize,
-    list: &mut [u32; 1024],
-    x: &mut [u32; 1024],
-    y: &mut [u32; 1024],
-) -> bool
-    requires { Unclaimed n img.now seen.old }
+// The same, with scratch made for a volume of fewer than N blocks: 12 bytes of the stack for each. Not inlined, so that a walk pays for its own alone.
+#[inline(never)]
+fn walk_below<const N: usize>(img: &[u8], seen: &mut [u8; 8192], n: usize) -> bool
+    requires { Unclaimed n img.now seen.old × (N ≤ 65536) }
     ensures { result ≡ decision n (view img.now) }
 {
-    walk_fits(img, seen, n, list, x, y)
-}
-
-// The same, with that scratch made: 12 KB of the stack.
-fn walk_below_1024(img: &[u8], seen: &mut [u8; 8192], n: usize) -> bool
-    requires { Unclaimed n img.now seen.old }
-    ensures { result ≡ decision n (view img.now) }
-{
-    let mut list = [0u32; 1024];
-    let mut x = [0u32; 1024];
-    let mut y = [0u32; 1024];
-    walk_in_1024(img, seen, n, &mut list, &mut x, &mut y)
-}
-
-// The same in scratch for a volume of fewer than 8,192 blocks.
-fn walk_in_8192(
-    img: &[u8],
-    seen: &mut [u8; 8192],
-    n: usize,
-    list: &mut [u32; 8192],
-    x: &mut [u32; 8192],
-    y: &mut [u32; 8192],
-) -> bool
-    requires { Unclaimed n img.now seen.old }
-    ensures { result ≡ decision n (view img.now) }
-{
-    walk_fits(img, seen, n, list, x, y)
-}
-
-// The same, with that scratch made: 96 KB of the stack.
-fn walk_below_8192(img: &[u8], seen: &mut [u8; 8192], n: usize) -> bool
-    requires { Unclaimed n img.now seen.old }
-    ensures { result ≡ decision n (view img.now) }
-{
-    let mut list = [0u32; 8192];
-    let mut x = [0u32; 8192];
-    let mut y = [0u32; 8192];
-    walk_in_8192(img, seen, n, &mut list, &mut x, &mut y)
-}
-
-// The same in scratch for a volume of fewer than 65,536 blocks.
-fn walk_in_65536(
-    img: &[u8],
-    seen: &mut [u8; 8192],
-    n: usize,
-    list: &mut [u32; 65536],
-    x: &mut [u32; 65536],
-    y: &mut [u32; 65536],
-) -> bool
-    requires { Unclaimed n img.now seen.old }
-    ensures { result ≡ decision n (view img.now) }
-{
-    walk_fits(img, seen, n, list, x, y)
-}
-
-// The same, with that scratch made: 768 KB of the stack.
-fn walk_below_65536(img: &[u8], seen: &mut [u8; 8192], n: usize) -> bool
-    requires { Unclaimed n img.now seen.old }
-    ensures { result ≡ decision n (view img.now) }
-{
-    let mut list = [0u32; 65536];
-    let mut x = [0u32; 65536];
-    let mut y = [0u32; 65536];
-    walk_in_65536(img, seen, n, &mut list, &mut x, &mut y)
+    let mut list = [0u32; N];
+    let mut nodes = [Node { left: 0, right: 0 }; N];
+    let mut scratch = Scratch {
+        list: &mut list,
+        nodes: &mut nodes,
+    };
+    walk_fits(img, seen, n, &mut scratch)
 }
 
 // The same, with scratch by the volume's size, made once for all its directories.
@@ -463,12 +350,12 @@ fn walk(img: &[u8], seen: &mut [u8; 8192], n: usize) -> bool
     ensures { result ≡ decision n (view img.now) }
 {
     if n < 1024 {
-        return walk_below_1024(img, seen, n);
+        walk_below::<1024>(img, seen, n)
+    } else if n < 8192 {
+        walk_below::<8192>(img, seen, n)
+    } else {
+        walk_below::<65536>(img, seen, n)
     }
-    if n < 8192 {
-        return walk_below_8192(img, seen, n);
-    }
-    walk_below_65536(img, seen, n)
 }
 
 // Whether an image of n blocks is a sound volume.
@@ -476,10 +363,9 @@ pub fn is_sound(img: &[u8], n: usize) -> bool
     requires { (16 ≤ n) × (n ≤ 65535) × (length img.now ≡ n * 512) }
     ensures { result ≡ sound n (view img.now) }
 {
-    if !checks::is_prodos(img, n) {
-        return false;
-    }
-    if store::get_word(img, VOLUME_BLOCK * BLOCK + 0x27) != MAP_BLOCK {
+    if !checks::is_prodos(img, n)
+        || store::get_word(img, VOLUME_BLOCK * BLOCK + 0x27) != MAP_BLOCK
+    {
         return false;
     }
     let mut seen = [0u8; 8192];

@@ -10,46 +10,44 @@ ghost use Rattle.model.specs.File.{pointer};
 pub fn least(a: usize, b: usize) -> usize
     ensures { result ≡ min a b }
 {
-    if a < b { a } else { b }
+    a.min(b)
 }
 
 pub fn largest(a: usize, b: usize) -> usize
     ensures { result ≡ max a b }
 {
-    if a < b { b } else { a }
+    a.max(b)
 }
 
+#[tactic(auto, unfolding(model::specs::Bytes::word))]
 pub fn get_word(img: &[u8], at: usize) -> usize
     requires { at + 1 < length img.now }
     ensures value { result ≡ word (view img.now) at }
     ensures upper_bound { result < 65536 }
 {
-    let low = img[at] as usize;
-    let high = img[at + 1] as usize;
-    low + 256 * high
+    usize::from(u16::from_le_bytes([img[at], img[at + 1]]))
 }
 
+#[tactic(auto, unfolding(model::specs::Bytes::long))]
 pub fn get_long(img: &[u8], at: usize) -> usize
     requires { at + 2 < length img.now }
     ensures value { result ≡ long (view img.now) at }
     ensures upper_bound { result < 16777216 }
 {
-    let low = get_word(img, at);
-    let high = img[at + 2] as usize;
-    low + 65536 * high
+    u32::from_le_bytes([img[at], img[at + 1], img[at + 2], 0]) as usize
 }
 
 // Pointer i of the index block b: low bytes in the block's first half, high bytes in its second.
+#[tactic(auto, unfolding(model::specs::File::pointer))]
 pub fn get_pointer(img: &[u8], b: usize, i: usize) -> usize
     requires { (i < 256) × (b * 512 + 512 ≤ length img.now) }
     ensures value { result ≡ pointer (view img.now) b i }
     ensures upper_bound { result < 65536 }
 {
-    let of_first = img[b * 512 + i] as usize;
-    let of_second = img[b * 512 + 256 + i] as usize;
-    of_first + 256 * of_second
+    usize::from(u16::from_le_bytes([img[b * 512 + i], img[b * 512 + 256 + i]]))
 }
 
+#[tactic(auto, using(model::proofs::ByteLaws::view_set))]
 pub fn put_byte(img: &mut [u8], at: usize, v: u8)
     requires { at < length img.old }
     ensures { view img.new ≡ put (view img.old) at v }
@@ -62,8 +60,7 @@ pub fn put_word(img: &mut [u8], at: usize, v: usize)
     requires { at + 1 < length img.old }
     ensures { view img.new ≡ put_word (view img.old) at v }
 {
-    img[at] = (v % 256) as u8;
-    img[at + 1] = (v / 256 % 256) as u8;
+    img[at..at + 2].copy_from_slice(&v.to_le_bytes()[..2]);
 }
 
 // The low three bytes of a number.
@@ -71,8 +68,7 @@ pub fn put_long(img: &mut [u8], at: usize, v: usize)
     requires { at + 2 < length img.old }
     ensures { view img.new ≡ put_long (view img.old) at v }
 {
-    put_word(img, at, v);
-    img[at + 2] = (v / 65536 % 256) as u8;
+    img[at..at + 3].copy_from_slice(&v.to_le_bytes()[..3]);
 }
 
 // k bytes of src, from `at` on, become those of dst from `to` on.
@@ -80,11 +76,7 @@ pub fn copy_run(dst: &mut [u8], to: usize, src: &[u8], at: usize, k: usize)
     requires { (to + k ≤ length dst.old) × (at + k ≤ length src.now) }
     ensures { view dst.new ≡ paste (view dst.old) to k (from (view src.now) at) }
 {
-    let mut copied = 0;
-    while copied < k {
-        dst[to + copied] = src[at + copied];
-        copied += 1;
-    }
+    dst[to..to + k].copy_from_slice(&src[at..at + k]);
 }
 
 // k equal bytes.
@@ -92,13 +84,10 @@ pub fn fill_run(dst: &mut [u8], to: usize, k: usize, byte: u8)
     requires { to + k ≤ length dst.old }
     ensures { view dst.new ≡ paste (view dst.old) to k (same byte) }
 {
-    let mut filled = 0;
-    while filled < k {
-        dst[to + filled] = byte;
-        filled += 1;
-    }
+    dst[to..to + k].fill(byte);
 }
 
+#[tactic(auto, unfolding(model::specs::Bytes::clear))]
 pub fn clear_run(dst: &mut [u8], to: usize, k: usize)
     requires { to + k ≤ length dst.old }
     ensures { view dst.new ≡ clear (view dst.old) to k }
@@ -111,28 +100,14 @@ pub fn same_bytes(f: &[u8], a: usize, g: &[u8], b: usize, k: usize) -> bool
     requires { (a + k ≤ length f.now) × (b + k ≤ length g.now) }
     ensures { result ≡ equal_bytes (view f.now) a (view g.now) b k }
 {
-    let mut same = 0;
-    while same < k {
-        if f[a + same] != g[b + same] {
-            return false;
-        }
-        same += 1;
-    }
-    true
+    f[a..a + k] == g[b..b + k]
 }
 
 pub fn all_zero(s: &[u8], at: usize, k: usize) -> bool
     requires { at + k ≤ length s.now }
     ensures { result ≡ all_zero (view s.now) at k }
 {
-    let mut zeros = 0;
-    while zeros < k {
-        if s[at + zeros] != 0 {
-            return false;
-        }
-        zeros += 1;
-    }
-    true
+    s[at..at + k].iter().all(|byte| *byte == 0)
 }
 
 // The first place from `start` on that has a byte, or the end.
@@ -141,12 +116,8 @@ pub fn place_of(s: &[u8], start: usize, byte: u8) -> usize
     ensures value { result ≡ place_of (view s.now) byte start (length s.now - start) }
     ensures lower_bound { (start ≤ result) × (result ≤ length s.now) }
 {
-    let mut at = start;
-    while at < s.len() {
-        if s[at] == byte {
-            return at;
-        }
-        at += 1;
+    match s[start..].iter().position(|x| *x == byte) {
+        Some(i) => start + i,
+        None => s.len(),
     }
-    at
 }

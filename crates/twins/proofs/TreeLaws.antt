@@ -11,7 +11,7 @@ use Rattle.model.specs.Bytes.{Bytes}
 use Rattle.model.specs.Names.{alike}
 use Rattle.model.proofs.ByteLaws.{at_or_off, put_at, put_off}
 use Rattle.twins.specs.declared.Spot.{Spot}
-use Rattle.twins.specs.Twins.{no_twins, key_of, child, walk, Alive, attached, Met, Tree, Apart, Lands}
+use Rattle.twins.specs.Twins.{no_twins, key_of, child, walk, Alive, attached, Met, Tree, Apart, HasTwin, Lands}
 use Rattle.twins.proofs.NameLaws.{alike_bits, none_all, found}
 
 -- a walk stays among the nodes
@@ -90,12 +90,12 @@ next l r s k b m = child (left l s k) (right r s k) b m
 
 -- Name k is attached where its walk landed.
 module _ (f : Bytes) (xs : List ℕ) (k : ℕ) (l r : Bytes) (s : Spot) (lands : Lands f xs k l r s) where
-  module _ (t : Tree f xs k l r) (e : s.twin ≡ false) where
+  module _ (t : Tree f xs k l r) where
     -- a child that was there is there
     kept : (b : Bool) (m : ℕ) → m < k → (child l r b m ≡ 0 → ⊥) → next l r s k b m ≡ child l r b m
     kept b m h n =
         grown_or l r s.node k s.bit b m (λ p. omega arith) (λ p. p)
-        (λ p q. absurd (n (ap (λ c. child l r c m) q ∙ ap (child l r s.bit) p ∙ lands.free e)))
+        (λ p q. absurd (n (ap (λ c. child l r c m) q ∙ ap (child l r s.bit) p ∙ lands.free)))
 
     -- and so is a walk
     module _ (key : ℕ → Bool) where
@@ -153,15 +153,15 @@ module _ (f : Bytes) (xs : List ℕ) (k : ℕ) (l r : Bytes) (s : Spot) (lands :
     pub tree_more : Tree f xs (k + 1) (attached l s.bit false s.node k) (attached r s.bit true s.node k)
     unfolding Later
     tree_more =
-        let (d, a, w, b) = lands.way e in
+        let (d, a, w, b) = lands.way in
         record { later = later_more; met = below_more _ k (λ j h. met_old j (t.met j h)) (met_new d a w b) }
 
-  pub apart_more : Apart f xs k → s.twin ≡ false → Apart f xs (k + 1)
-  apart_more a e i j h m = at_or_off j k (λ p. rw p (lands.alone e i (omega arith))) (λ o. a i j h (omega (arith, o)))
+  pub apart_more : Apart f xs k → Apart f xs (k + 1)
+  apart_more a i j h m = at_or_off j k (λ p. rw p (lands.alone i (omega arith))) (λ o. a i j h (omega (arith, o)))
 
-  -- or it has a twin
-  pub some_twins : k < length xs → s.twin ≡ true → false ≡ no_twins f xs
-  some_twins h e = sym (found f xs s.node k lands.inside h (lands.found e))
+-- or it has a twin
+pub some_twins : (f : Bytes) (xs : List ℕ) (k : ℕ) → k < length xs → HasTwin f xs k → false ≡ no_twins f xs
+some_twins f xs k h t = sym (found f xs t.0 k t.1 h t.2)
 
 pub none_twins : (f : Bytes) (xs : List ℕ) → Apart f xs (length xs) → true ≡ no_twins f xs
 none_twins f xs a = sym (none_all f xs a)

@@ -2,6 +2,7 @@
 use Rattle.std.specs.Prelude.{ℕ, zero, suc, ◌+◌, ◌-◌, ◌*◌, ◌/◌, ◌%◌, ◌^◌, ◌<◌, ◌≤◌, ◌≡◌, List, [], ◌∷◌, Bool, true, false, not, length, get_or, leb, ltb, eqb}
 use Rattle.model.specs.Bytes.{Bytes, put, from, ◌and◌}
 use Rattle.model.specs.Names.{alike}
+use Rattle.twins.specs.declared.Node.{Node}
 use Rattle.twins.specs.declared.Spot.{Spot}
 
 -- each slot lies in an image of n bytes
@@ -46,6 +47,16 @@ bit_of g i = elim (ltb i 32) [ true ↦ eqb (hash_of g / 2 ^ i % 2) 1 | false �
 abbrev pub key_of : Bytes → List ℕ → ℕ → (ℕ → Bool)
 key_of f xs j = bit_of (from f (get_or xs j 0))
 
+-- the nodes' children on each side
+abbrev pub leaf : Node
+leaf = record { left = 0; right = 0 }
+
+unfoldable pub lefts : List Node → Bytes
+lefts ns m = (get_or ns m leaf).left
+
+unfoldable pub rights : List Node → Bytes
+rights ns m = (get_or ns m leaf).right
+
 -- a node's child: the right one where the bit is 1; 0 is none
 abbrev pub child : Bytes → Bytes → Bool → ℕ → ℕ
 child l r b m = when b (r m) (l m)
@@ -78,10 +89,13 @@ pub record Tree (f : Bytes) (xs : List ℕ) (k : ℕ) (l r : Bytes) : Type 0 whe
 abbrev pub Apart : Bytes → List ℕ → ℕ → Type 0
 Apart f xs k = (i j : ℕ) → i < j → j < k → alike f (get_or xs i 0) (get_or xs j 0) ≡ false
 
--- The walk of name k ended at a spot: with a twin before it, or where it can be attached, and then none before it is alike.
+-- One of those before name k is alike.
+abbrev pub HasTwin : Bytes → List ℕ → ℕ → Type 0
+HasTwin f xs k = (j : ℕ) × (j < k) × (alike f (get_or xs j 0) (get_or xs k 0) ≡ true)
+
+-- The walk of name k ended at a spot where it can be attached, and none before it is alike.
 pub record Lands (f : Bytes) (xs : List ℕ) (k : ℕ) (l r : Bytes) (s : Spot) : Type 0 where
   pub inside : s.node < k
-  pub found : s.twin ≡ true → alike f (get_or xs s.node 0) (get_or xs k 0) ≡ true
-  pub alone : s.twin ≡ false → (j : ℕ) → j < k → alike f (get_or xs j 0) (get_or xs k 0) ≡ false
-  pub way : s.twin ≡ false → (d : ℕ) × Alive l r (key_of f xs k) d × (walk l r (key_of f xs k) d ≡ s.node) × (key_of f xs k d ≡ s.bit)
-  pub free : s.twin ≡ false → child l r s.bit s.node ≡ 0
+  pub alone : (j : ℕ) → j < k → alike f (get_or xs j 0) (get_or xs k 0) ≡ false
+  pub way : (d : ℕ) × Alive l r (key_of f xs k) d × (walk l r (key_of f xs k) d ≡ s.node) × (key_of f xs k d ≡ s.bit)
+  pub free : child l r s.bit s.node ≡ 0

@@ -2,29 +2,23 @@
 // A name is known by its slot's address, a node of the tree by its name's place in the list. 0 is no child: node 0 is the root.
 #![tactic(auto)]
 
-ghost use Rattle.std.specs.Prelude.{◌≡◌, true, false, ◌+◌, ◌≤◌, ◌<◌, length, get_or};
+ghost use Rattle.std.specs.Prelude.{◌≡◌, true, false, ◌+◌, ◌≤◌, ◌<◌, length, get_or, MatchOption};
 ghost use Rattle.model.specs.Bytes.{view, from};
 ghost use Rattle.model.specs.Names.{alike};
-ghost use Rattle.twins.specs.Twins.{Stored, no_twins, digit_of, hash_of, own_bit, bit_of, child, attached, Tree, Lands};
+ghost use Rattle.twins.specs.Twins.{Stored, no_twins, digit_of, hash_of, own_bit, bit_of, lefts, rights, child, attached, Tree, HasTwin, Lands};
 
-// Where a walk through the tree ended: at a node with the same name, or at one with no child on the side that the next bit says.
+// A node's children.
+#[derive(Clone, Copy)]
+pub struct Node {
+    pub left: u32,
+    pub right: u32,
+}
+
+// Where a name belongs: at a node with no child on the side that the next bit says.
 #[derive(Clone, Copy)]
 struct Spot {
-    twin: bool,
     node: usize,
     bit: bool,
-}
-
-fn wide(x: u8) -> usize
-    ensures { result ≡ x }
-{
-    x as usize
-}
-
-fn index(x: u32) -> usize
-    ensures { result ≡ x }
-{
-    x as usize
 }
 
 // Two slots, by address, store the same name.
@@ -36,50 +30,49 @@ pub fn alike_at(img: &[u8], a: usize, b: usize) -> bool
 }
 
 // The same, sooner where the last bytes differ, as in names that are made in a row.
+#[tactic(auto, using(crate::proofs::NameLaws::last_differs))]
 fn same_name(img: &[u8], a: usize, b: usize) -> bool
     requires { (a + 39 ≤ length img.now) × (b + 39 ≤ length img.now) }
     ensures { result ≡ alike (view img.now) a b }
 {
-    let size = wide(img[a] % 16);
-    if 0 < size {
-        if img[a + size] != img[b + size] {
-            return false;
-        }
+    let size = usize::from(img[a] % 16);
+    if 0 < size && img[a + size] != img[b + size] {
+        return false;
     }
     alike_at(img, a, b)
 }
 
 // The length, then the name's bytes, then zeros.
+#[tactic(auto, using(crate::proofs::NameLaws::digit_first, crate::proofs::NameLaws::digit_in, crate::proofs::NameLaws::digit_past))]
 fn digit(img: &[u8], a: usize, k: usize) -> u8
     requires { (a + 16 ≤ length img.now) × (k < 16) }
     ensures { result ≡ digit_of (from (view img.now) a) k }
 {
     let n = img[a] % 16;
-    let x = img[a + k];
     if k == 0 {
-        return n;
+        n
+    } else if k <= usize::from(n) {
+        img[a + k]
+    } else {
+        0
     }
-    if k <= wide(n) {
-        return x;
-    }
-    0
 }
 
 // A number of 32 bits that names which are alike share, and others seldom.
+#[tactic(auto, unfolding(crate::specs::Twins::mixed))]
 fn hash(img: &[u8], a: usize) -> usize
     requires { a + 16 ≤ length img.now }
     ensures { result ≡ hash_of (from (view img.now) a) }
 {
     let mut mixed = 0;
-    let mut k = 0;
-    while k < 16 {
-        mixed = (mixed * 31 + wide(digit(img, a, k))) % 4294967296;
-        k += 1;
+    for k in 0..16 {
+        mixed = (mixed * 31 + usize::from(digit(img, a, k))) % 4294967296;
     }
     mixed
 }
 
 // Bit i of the digits, eight for each.
+#[tactic(auto, unfolding(crate::specs::Twins::own_bit))]
 fn own_bit(img: &[u8], a: usize, i: usize) -> bool
     requires { a + 16 ≤ length img.now }
     ensures { result ≡ own_bit (from (view img.now) a) i }
@@ -89,28 +82,30 @@ fn own_bit(img: &[u8], a: usize, i: usize) -> bool
 }
 
 // Bit i of a name: those of its hash come first, so that few names share a long way.
+#[tactic(auto, using(crate::proofs::NameLaws::bit_hashed, crate::proofs::NameLaws::bit_own))]
 fn bit(img: &[u8], a: usize, hash: usize, i: usize) -> bool
     requires { (a + 16 ≤ length img.now) × (hash ≡ hash_of (from (view img.now) a)) }
     ensures { result ≡ bit_of (from (view img.now) a) i }
 {
     if i < 32 {
-        return (hash >> i) % 2 == 1;
+        (hash >> i) % 2 == 1
+    } else {
+        own_bit(img, a, i - 32)
     }
-    own_bit(img, a, i - 32)
 }
 
 fn same_at(img: &[u8], places: &[u32], p: usize, q: usize) -> bool
     requires { (p < length places.now) × (q < length places.now) × Stored (length img.now) places.now }
     ensures { result ≡ alike (view img.now) (get_or places.now p 0) (get_or places.now q 0) }
 {
-    same_name(img, index(places[p]), index(places[q]))
+    same_name(img, places[p] as usize, places[q] as usize)
 }
 
 fn hash_at(img: &[u8], places: &[u32], p: usize) -> usize
     requires { (p < length places.now) × Stored (length img.now) places.now }
     ensures { result ≡ hash_of (from (view img.now) (get_or places.now p 0)) }
 {
-    hash(img, index(places[p]))
+    hash(img, places[p] as usize)
 }
 
 fn bit_at(img: &[u8], places: &[u32], p: usize, hash: usize, i: usize) -> bool
@@ -118,74 +113,60 @@ fn bit_at(img: &[u8], places: &[u32], p: usize, hash: usize, i: usize) -> bool
     requires hash_value { hash ≡ hash_of (from (view img.now) (get_or places.now p 0)) }
     ensures { result ≡ bit_of (from (view img.now) (get_or places.now p 0)) i }
 {
-    bit(img, index(places[p]), hash, i)
+    bit(img, places[p] as usize, hash, i)
 }
 
-fn child_of(left: &[u32], right: &[u32], bit: bool, node: usize) -> usize
-    requires { (node < length left.now) × (node < length right.now) }
-    ensures { result ≡ child (view left.now) (view right.now) bit node }
+#[tactic(auto, unfolding(crate::specs::Twins::lefts, crate::specs::Twins::rights))]
+fn child_of(nodes: &[Node], bit: bool, node: usize) -> usize
+    requires { node < length nodes.now }
+    ensures { result ≡ child (lefts nodes.now) (rights nodes.now) bit node }
 {
     if bit {
-        index(right[node])
+        nodes[node].right as usize
     } else {
-        index(left[node])
+        nodes[node].left as usize
     }
 }
 
-// Where name k belongs in the tree of those before it.
-fn descend(img: &[u8], places: &[u32], left: &[u32], right: &[u32], k: usize) -> Spot
-    requires k_nonzero { (0 < k) × (k < length places.now) × (k < length left.now) × (k < length right.now) × Stored (length img.now) places.now }
-    requires tree { Tree (view img.now) places.now k (view left.now) (view right.now) }
-    ensures { Lands (view img.now) places.now k (view left.now) (view right.now) result }
+// Where name k belongs in the tree of those before it; none where one of them is its twin. A child is a later node, so that k steps are enough.
+fn descend(img: &[u8], places: &[u32], nodes: &[Node], k: usize) -> Option<Spot>
+    requires k_nonzero { (0 < k) × (k < length places.now) × (k < length nodes.now) × Stored (length img.now) places.now }
+    requires tree { Tree (view img.now) places.now k (lefts nodes.now) (rights nodes.now) }
+    ensures { MatchOption result (HasTwin (view img.now) places.now k) (λ s. Lands (view img.now) places.now k (lefts nodes.now) (rights nodes.now) s) }
 {
     let hash = hash_at(img, places, k);
     let mut node = 0;
-    let mut i = 0;
-    while node < k {
+    for i in 0..k {
         if same_at(img, places, node, k) {
-            return Spot {
-                twin: true,
-                node,
-                bit: false,
-            };
+            return None;
         }
         let bit = bit_at(img, places, k, hash, i);
-        let next = child_of(left, right, bit, node);
+        let next = child_of(nodes, bit, node);
         if next == 0 {
-            return Spot {
-                twin: false,
-                node,
-                bit,
-            };
+            return Some(Spot { node, bit });
         }
         node = next;
-        i += 1;
     }
-    Spot {
-        twin: true,
-        node,
-        bit: false,
-    }
+    None
 }
 
 // Node k, with no child, becomes a child of a node before it.
-fn attach(left: &mut [u32], right: &mut [u32], bit: bool, node: usize, k: usize)
-    requires { (node < k) × (k < length left.old) × (k < length right.old) × (k ≤ 4294967295) }
-    ensures left_after { view left.new ≡ attached (view left.old) bit false node k }
-    ensures right_after { view right.new ≡ attached (view right.old) bit true node k }
+fn attach(nodes: &mut [Node], spot: Spot, k: usize)
+    requires { (spot.node < k) × (k < length nodes.old) × (k ≤ 4294967295) }
+    ensures left_after { lefts nodes.new ≡ attached (lefts nodes.old) spot.bit false spot.node k }
+    ensures right_after { rights nodes.new ≡ attached (rights nodes.old) spot.bit true spot.node k }
 {
-    left[k] = 0;
-    right[k] = 0;
-    if bit {
-        right[node] = k as u32;
+    nodes[k] = Node { left: 0, right: 0 };
+    if spot.bit {
+        nodes[spot.node].right = k as u32;
     } else {
-        left[node] = k as u32;
+        nodes[spot.node].left = k as u32;
     }
 }
 
-// No two of the names at these places are alike. The last two are scratch: the nodes' children.
-pub fn no_twins(img: &[u8], places: &[u32], left: &mut [u32], right: &mut [u32]) -> bool
-    requires places_in_bounds { (length places.now ≤ length left.old) × (length places.now ≤ length right.old) × (length places.now ≤ 4294967295) }
+// No two of the names at these places are alike. The last is scratch, a node for each name.
+pub fn no_twins(img: &[u8], places: &[u32], nodes: &mut [Node]) -> bool
+    requires places_in_bounds { (length places.now ≤ length nodes.old) × (length places.now ≤ 4294967295) }
     requires stored { Stored (length img.now) places.now }
     ensures { result ≡ no_twins (view img.now) places.now }
 {
@@ -193,16 +174,12 @@ pub fn no_twins(img: &[u8], places: &[u32], left: &mut [u32], right: &mut [u32])
     if n == 0 {
         return true;
     }
-    left[0] = 0;
-    right[0] = 0;
-    let mut k = 1;
-    while k < n {
-        let spot = descend(img, places, left, right, k);
-        if spot.twin {
+    nodes[0] = Node { left: 0, right: 0 };
+    for k in 1..n {
+        let Some(spot) = descend(img, places, nodes, k) else {
             return false;
-        }
-        attach(left, right, spot.bit, spot.node, k);
-        k += 1;
+        };
+        attach(nodes, spot, k);
     }
     true
 }

@@ -1,4 +1,5 @@
 -- What write answers: row by row for the entry at a place, and by what the path leads to. Assumes nothing.
+use Rattle.std.specs.Prelude.{Result, Ok, Err}
 use Prim.Native.Nat.{ℕ, ◌+◌, ◌≤◌, ◌<◌, ◌/◌, ◌%◌}
 use mathlib.Core.Path.{◌≡◌, refl, sym, ap, ◌∙◌}
 use mathlib.Core.List.{List, [], ◌∷◌}
@@ -15,7 +16,6 @@ use Rattle.model.specs.Refusals.{refusal_number, Row, row, first, settle}
 use Rattle.model.specs.Calls.{total, target, spot, not_data, allows, write_bit}
 use Rattle.model.specs.Write.{written, write_need, write_number, write}
 use Rattle.model.specs.Answers.{Writes}
-use Rattle.model.specs.declared.Transfer.TheVariants as transfer
 use Rattle.model.specs.declared.Refusal.{Refusal}
 use Rattle.model.specs.declared.Refusal.TheVariants.{BadKind}
 use Rattle.model.specs.declared.Entry.{Entry}
@@ -131,26 +131,26 @@ module _ (n s pos : ℕ) (buffer : Bytes) (size : ℕ) (t : Stamp) (l : List ℕ
   new = pick (eqb size 0)
 
   pub place_no : (r : Refusal) → first (write_rows n (view l) pos size s) ≡ refusal_number r
-      → Writes (written_at n (view l) s pos buffer size t) (length l) (transfer.Refused r) l
+      → Writes (written_at n (view l) s pos buffer size t) (length l) (Err r) l
   unfolding written_at settle
   place_no r z =
       let o = settle_refused (first (write_rows n (view l) pos size s)) 0 (view l) size new (λ q. number_refuses r (sym z ∙ q)) in
       record { said = sym z; moved = sym o.0; size = refl; bytes = sym o.1 }
 
   done : (m : List ℕ) (k : ℕ) → first (write_rows n (view l) pos size s) ≡ 0 → k ≡ size → length m ≡ length l → view m ≡ new
-      → Writes (written_at n (view l) s pos buffer size t) (length l) (transfer.Moved k) m
+      → Writes (written_at n (view l) s pos buffer size t) (length l) (Ok k) m
   unfolding written_at settle
   done m k z e q b =
       let o = settle_accepted (first (write_rows n (view l) pos size s)) 0 (view l) size new z in
       record { said = sym z; moved = e ∙ sym o.0; size = q; bytes = b ∙ sym o.1 }
 
   pub place_nothing : first (write_rows n (view l) pos size s) ≡ 0 → size ≡ 0
-      → Writes (written_at n (view l) s pos buffer size t) (length l) (transfer.Moved 0) l
+      → Writes (written_at n (view l) s pos buffer size t) (length l) (Ok 0) l
   place_nothing z e = done l 0 z (sym e) refl (sym (ap pick (eq-eqb size 0 e)))
 
   pub place_done : (m : List ℕ) → first (write_rows n (view l) pos size s) ≡ 0 → (size ≡ 0 → ⊥) → map_block (view l) ≡ map_place → length m ≡ length l
       → view m ≡ written map_place n (view l) s pos buffer size t
-      → Writes (written_at n (view l) s pos buffer size t) (length l) (transfer.Moved size) m
+      → Writes (written_at n (view l) s pos buffer size t) (length l) (Ok size) m
   place_done m z e q k b = done m size z refl k (b ∙ ap (λ a. written a n (view l) s pos buffer size t) (sym q) ∙ sym (ap pick (ne_eqb size 0 e)))
 
 -- What a path leads to.
@@ -161,9 +161,9 @@ write_number_law len v p k pos size = opened_first len v p k (write_rows (total 
 
 module _ (p : Bytes) (k pos : ℕ) (buffer : Bytes) (size : ℕ) (t : Stamp) (l : List ℕ) where
   abbrev Answers : Refusal → Type 0
-  Answers r = Writes (write (length l) (view l) p k pos buffer size t) (length l) (transfer.Refused r) l
+  Answers r = Writes (write (length l) (view l) p k pos buffer size t) (length l) (Err r) l
 
-  abbrev after : Opened → ℕ
+  abbrev after : Result Opened Refusal → ℕ
   after o = opened_or o (first (write_rows (total (length l)) (view l) pos size (spot (target (view l) p k))))
 
   write_no : (r : Refusal) → after (opened_by (length l) (view l) p k) ≡ refusal_number r → Answers r
@@ -173,14 +173,14 @@ module _ (p : Bytes) (k pos : ℕ) (buffer : Bytes) (size : ℕ) (t : Stamp) (l 
       let o = settle_refused (write_number (length l) (view l) p k pos size (target (view l) p k)) 0 (view l) size _ (λ q. number_refuses r (sym number ∙ q)) in
       record { said = sym number; moved = sym o.0; size = refl; bytes = sym o.1 }
 
-  pub write_refused : (r : Refusal) → opened_by (length l) (view l) p k ≡ opened.Refused r → Answers r
+  pub write_refused : (r : Refusal) → opened_by (length l) (view l) p k ≡ Err r → Answers r
   write_refused r q = write_no r (ap after q)
 
   volume_number : (n : ℕ) (v : Bytes) → first (write_rows n v pos size volume) ≡ 0x4B
   unfolding first write_rows sort
   volume_number n v = refl
 
-  pub write_volume : (n : ℕ) → opened_by (length l) (view l) p k ≡ opened.Volume n → Answers BadKind
+  pub write_volume : (n : ℕ) → opened_by (length l) (view l) p k ≡ Ok (opened.Volume n) → Answers BadKind
   write_volume n q =
       write_no BadKind
       (ap after q
@@ -188,7 +188,7 @@ module _ (p : Bytes) (k pos : ℕ) (buffer : Bytes) (size : ℕ) (t : Stamp) (l 
       ∙ volume_number (total (length l)) (view l))
 
 pub write_entry : (len : ℕ) (v p : Bytes) (k pos : ℕ) (buffer : Bytes) (size : ℕ) (t : Stamp) (n : ℕ) (h : Home) (s : Place) (x : Entry) → Octets v
-    → opened_by len v p k ≡ opened.Entry n h s x → Fits len v n × (write len v p k pos buffer size t ≡ written_at n v (place_number s) pos buffer size t) × Told n v s x
+    → opened_by len v p k ≡ Ok (opened.Entry n h s x) → Fits len v n × (write len v p k pos buffer size t ≡ written_at n v (place_number s) pos buffer size t) × Told n v s x
 unfolding write written_at
 write_entry len v p k pos buffer size t n h s x octets q =
     let o = opened_entry len v p k n h s x octets q in

@@ -13,7 +13,7 @@ ghost use Rattle.directory.specs.Slots.{place_number, Counted};
 ghost use Rattle.held.specs.Held.{Held, Told};
 ghost use Rattle.write.specs.Writing.{written_at, entry_need};
 
-use model::{Entry, Place, Refusal, Stamp, Transfer};
+use model::{Entry, Place, Refusal, Stamp};
 use opening::Opened;
 
 const MAP_BLOCK: usize = 6;
@@ -25,10 +25,7 @@ const EOF_MOST: usize = 16777215;
 fn is_too_far(eof: u32, position: usize, size: usize) -> bool
     ensures { result ≡ (ltb eof position or ltb eof_most (position + size)) }
 {
-    if (eof as usize) < position {
-        return true;
-    }
-    if EOF_MOST < size {
+    if (eof as usize) < position || EOF_MOST < size {
         return true;
     }
     EOF_MOST < position + size
@@ -87,40 +84,45 @@ fn write_entry(
     position: usize,
     buffer: &[u8],
     stamp: Stamp,
-) -> Transfer
+) -> Result<usize, Refusal>
     requires { (16 ≤ n) × (n ≤ 65535) × (length img.old ≡ n * 512) × Told n (view img.old) place entry }
     ensures { Writes (written_at n (view img.old) (place_number place) position (view buffer.now) (length buffer.now) stamp) (length img.old) result img.new }
 {
     let kind = entry.kind;
     if opening::height_of(kind) == 3 {
-        return Transfer::Refused(Refusal::BadKind);
+        return Err(Refusal::BadKind);
     }
     if entry.access / 2 % 2 == 0 {
-        return Transfer::Refused(Refusal::Locked);
+        return Err(Refusal::Locked);
     }
     let eof = entry.eof;
     let size = buffer.len();
     if is_too_far(eof, position, size) {
-        return Transfer::Refused(Refusal::BadPosition);
+        return Err(Refusal::BadPosition);
     }
     if size == 0 {
-        return Transfer::Moved(0);
+        return Ok(0);
     }
     let free = map::free_blocks(img, MAP_BLOCK, n);
     if free < need(img, n, place, entry, position, size) {
-        return Transfer::Refused(Refusal::NoRoom);
+        return Err(Refusal::NoRoom);
     }
     put_data(img, n, place, entry, free, position, buffer, stamp);
-    Transfer::Moved(size)
+    Ok(size)
 }
 
 // Write: the buffer, to a position of the file that a path names.
-pub fn write(img: &mut [u8], path: &[u8], position: usize, buffer: &[u8], stamp: Stamp) -> Transfer
+pub fn write(
+    img: &mut [u8],
+    path: &[u8],
+    position: usize,
+    buffer: &[u8],
+    stamp: Stamp,
+) -> Result<usize, Refusal>
     ensures { Writes (writeCall (length img.old) (view img.old) (view path.now) (length path.now) position (view buffer.now) (length buffer.now) stamp) (length img.old) result img.new }
 {
-    match opening::opened_by(img, path) {
-        Opened::Refused(why) => Transfer::Refused(why),
-        Opened::Volume(_) => Transfer::Refused(Refusal::BadKind),
+    match opening::opened_by(img, path)? {
+        Opened::Volume(_) => Err(Refusal::BadKind),
         Opened::Entry(n, _, place, entry) => write_entry(
             img, n, place, entry, position, buffer, stamp,
         ),

@@ -13,4 +13,4 @@ returns c =
     let n = length a.img.now in
     let v = view a.img.now in
     let vs = a.values.now in
-    stamped_as (λ b k s. Does (format n v b k s) n c.format.result c.format.new.img) vs a.room.now 1 (omega arith) c.stamp_of-stamp.ensures c.format.ensures
+    stamped_as (λ b k s. Does (format n v b k s) n c.format.result c.format.new.img) vs a.room.now 1 (omega arith) c.stamp_of.ensures c.format.ensures

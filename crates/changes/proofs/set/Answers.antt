@@ -16,4 +16,4 @@ pub returns : goal.returns
 returns c =
     let a = c.args in
     let bs = a.buffer.now in
-    laid_done (length a.img.now) (view bs) a.values.now bs (view a.img.now) (omega arith) (rw (from_start (view bs)) at c.copy_run.ensures) c.say_answer.ensures
+    laid_done (length a.img.now) (view bs) a.values.now bs (view a.img.now) (omega arith) (rw (from_start (view bs)) at c.copy_run.ensures) (record { good = refl; page = c.say_answer.ensures })

@@ -14,4 +14,4 @@ returns-then-img-address c =
 pub returns : goal.returns
 returns c =
     let a = c.args in
-    λ bs. laid_done (length a.img.now) (same (view a.values.now 2)) a.values.now bs (view a.img.now) (omega arith) c.fill_run.ensures c.say_answer.ensures
+    λ bs. laid_done (length a.img.now) (same (view a.values.now 2)) a.values.now bs (view a.img.now) (omega arith) c.fill_run.ensures (record { good = refl; page = c.say_answer.ensures })

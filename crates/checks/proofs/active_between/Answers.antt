@@ -1,4 +1,4 @@
--- `checks::active_between` meets its contract. The count and what is still to be counted are the whole. The measure is the places left.
+-- `checks::active_between` meets its contract. The count and what is still to be counted are the whole.
 use Rattle.checks.proofs.Laws.{active_more, active_same, active_end}
 use mathlib.Core.Path.{sym, ◌∙◌}
 use native.Mathlib.Omega.{arith}
@@ -13,8 +13,8 @@ loop-place-preserved c =
     let s = c.loop-place.place in
     let t = c.is_active.ensures in
     elim c.if-is_active.branch [
-      | then-is_active w ↦ let h = active_more v s a.end (omega arith) (sym t ∙ w.if-is_active.true) in (omega arith, omega arith, omega arith, omega arith)
-      | else-is_active w ↦ let h = active_same v s a.end (omega arith) (sym t ∙ w.if-is_active.false) in (omega arith, omega arith, omega arith, omega arith)
+      | then-is_active w ↦ let h = active_more v s a.end (omega arith) (sym t ∙ w.if-is_active.true) in (omega arith, omega arith)
+      | else-is_active w ↦ let h = active_same v s a.end (omega arith) (sym t ∙ w.if-is_active.false) in (omega arith, omega arith)
     ]
 
 pub returns : goal.returns

@@ -1,13 +1,10 @@
--- `checks::active_in_blocks` meets its contract. The count and what is still to be counted are the whole. The measure is the blocks left.
+-- `checks::active_in_blocks` meets its contract. The count and what is still to be counted are the whole.
 use mathlib.Core.Path.{◌≡◌}
-use Prim.Native.Nat.{◌+◌, ◌*◌, ◌≤◌}
+use Prim.Native.Nat.{◌+◌, ◌-◌, ◌*◌, ◌≤◌}
 use Rattle.model.specs.Bytes.{view}
 use Rattle.model.specs.Directory.{active, chain, slots}
-use Rattle.checks.specs.Inside.{Inside}
+use Rattle.checks.proofs.Laws.{Coming}
 use Rattle.checks.proofs.active_in_blocks.Given as goal
 
-abbrev pub invariant-loop-left : goal.invariant-loop-left
-invariant-loop-left l = (l.left ≤ l.blocks) × Inside l.n (chain (view l.img) l.block l.left) × (l.count + active (view l.img) (slots (chain (view l.img) l.block l.left)) ≡ active (view l.img) (slots (chain (view l.img) l.first l.blocks))) × (l.count + l.left * 13 ≤ l.blocks * 13)
-
-abbrev pub decreases-loop-left : goal.decreases-loop-left
-decreases-loop-left l = l.left
+abbrev pub invariant-loop-done : goal.invariant-loop-done
+invariant-loop-done l = Coming (view l.img) l.n l.block (l.blocks - l._done) × (l.count + active (view l.img) (slots (chain (view l.img) l.block (l.blocks - l._done))) ≡ active (view l.img) (slots (chain (view l.img) l.first l.blocks))) × (l.count ≤ l._done * 13)

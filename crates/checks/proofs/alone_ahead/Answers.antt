@@ -1,15 +1,11 @@
 -- `checks::alone_ahead` meets its contract. The slots of the same block, and those of the blocks after it.
 use mathlib.Core.Path.{sym, ap, ◌∙◌}
-use native.Mathlib.Omega.{arith}
 use Rattle.model.specs.Bytes.{◌and◌, view}
 use Rattle.model.specs.Directory.{chain, slots}
 use lib.Dec.{eqb}
 use Rattle.model.specs.Sound.{twins_of}
 use Rattle.checks.proofs.Laws.{alone_append}
 use Rattle.checks.proofs.alone_ahead.Goals as goal
-
-pub alone_in_blocks-requires : goal.alone_in_blocks-requires
-alone_in_blocks-requires c = record { readable = (c.requires.readable.0, omega arith); inside = rw c.next_of.ensures c.requires.inside }
 
 pub returns-then-alone_between : goal.returns-then-alone_between
 unfolding ◌and◌
@@ -22,4 +18,4 @@ returns-then-alone_between c =
 
 pub returns-else-alone_between : goal.returns-else-alone_between
 unfolding ◌and◌
-returns-else-alone_between c = let here = sym c.alone_between.ensures ∙ c.if-alone_between.false in rw (alone_append, here)
+returns-else-alone_between c = let here = sym c.alone_between.ensures ∙ c.if-alone_between.false in rw (alone_append, here) c.if-alone_between.false

@@ -1,13 +1,10 @@
--- `checks::alone_between` meets its contract. What is still to be compared decides. The measure is the places left.
+-- `checks::alone_between` meets its contract. What is still to be compared decides.
 use mathlib.Core.Path.{◌≡◌}
-use Prim.Native.Nat.{◌-◌, ◌≤◌}
+use Prim.Native.Nat.{◌-◌}
 use lib.Dec.{eqb}
 use Rattle.model.specs.Bytes.{view, run}
 use Rattle.model.specs.Sound.{twins_of}
 use Rattle.checks.proofs.alone_between.Given as goal
 
 abbrev pub invariant-loop-other : goal.invariant-loop-other
-invariant-loop-other l = (l.other ≤ l.end) × (l.start ≤ l.other) × (eqb (twins_of (view l.img) l.place (run l.other (l.end - l.other))) 0 ≡ eqb (twins_of (view l.img) l.place (run l.start (l.end - l.start))) 0)
-
-abbrev pub decreases-loop-other : goal.decreases-loop-other
-decreases-loop-other l = l.end - l.other
+invariant-loop-other l = eqb (twins_of (view l.img) l.place (run l.other (l.end - l.other))) 0 ≡ eqb (twins_of (view l.img) l.place (run l.start (l.end - l.start))) 0

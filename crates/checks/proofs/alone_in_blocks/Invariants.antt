@@ -1,14 +1,12 @@
--- `checks::alone_in_blocks` meets its contract. What is still to be compared decides. The measure is the blocks left.
+-- `checks::alone_in_blocks` meets its contract. What is still to be compared decides.
 use mathlib.Core.Path.{◌≡◌}
+use Prim.Native.Nat.{◌-◌}
+use lib.Dec.{eqb}
 use Rattle.model.specs.Bytes.{view}
 use Rattle.model.specs.Directory.{chain, slots}
-use Rattle.checks.specs.Inside.{Inside}
-use lib.Dec.{eqb}
 use Rattle.model.specs.Sound.{twins_of}
+use Rattle.checks.proofs.Laws.{Coming}
 use Rattle.checks.proofs.alone_in_blocks.Given as goal
 
-abbrev pub invariant-loop-left : goal.invariant-loop-left
-invariant-loop-left l = Inside l.n (chain (view l.img) l.block l.left) × (eqb (twins_of (view l.img) l.place (slots (chain (view l.img) l.block l.left))) 0 ≡ eqb (twins_of (view l.img) l.place (slots (chain (view l.img) l.first l.blocks))) 0)
-
-abbrev pub decreases-loop-left : goal.decreases-loop-left
-decreases-loop-left l = l.left
+abbrev pub invariant-loop-done : goal.invariant-loop-done
+invariant-loop-done l = Coming (view l.img) l.n l.block (l.blocks - l._done) × (eqb (twins_of (view l.img) l.place (slots (chain (view l.img) l.block (l.blocks - l._done)))) 0 ≡ eqb (twins_of (view l.img) l.place (slots (chain (view l.img) l.first l.blocks))) 0)

@@ -15,36 +15,6 @@ returns-then-used-eq0 c =
     let v = view a.img.now in
     sym (ap (λ l. active v (drop 1 l)) (no_slots v a.key a.used c.if-used-eq0.true))
 
-pub overflow_mul-start : goal.overflow_mul-start
-overflow_mul-start c =
-    let a = c.args in
-    let on = (inside_chain (view a.img.now) a.n a.key a.used (omega arith) c.requires.inside).0 in
-    omega arith
-
-pub overflow_add-start : goal.overflow_add-start
-overflow_add-start c =
-    let a = c.args in
-    let on = (inside_chain (view a.img.now) a.n a.key a.used (omega arith) c.requires.inside).0 in
-    omega arith
-
-pub overflow_add-start-2 : goal.overflow_add-start-2
-overflow_add-start-2 c =
-    let a = c.args in
-    let on = (inside_chain (view a.img.now) a.n a.key a.used (omega arith) c.requires.inside).0 in
-    omega arith
-
-pub active_between-count-requires : goal.active_between-count-requires
-active_between-count-requires c =
-    let a = c.args in
-    let on = (inside_chain (view a.img.now) a.n a.key a.used (omega arith) c.requires.inside).0 in
-    (c.requires.readable.0, omega arith, omega arith)
-
-pub next_of-requires : goal.next_of-requires
-next_of-requires c =
-    let a = c.args in
-    let on = (inside_chain (view a.img.now) a.n a.key a.used (omega arith) c.requires.inside).0 in
-    omega arith
-
 pub active_in_blocks-requires : goal.active_in_blocks-requires
 active_in_blocks-requires c =
     let a = c.args in

@@ -17,28 +17,10 @@ returns-then-used-eq0 c =
     let v = view a.img.now in
     sym (ap (λ l. eqb (twins v (drop 1 l)) 0) (no_slots v a.key a.used c.if-used-eq0.true))
 
-pub overflow_mul-key : goal.overflow_mul-key
-overflow_mul-key c =
-    let a = c.args in
-    let on = (inside_chain (view a.img.now) a.n a.key a.used (omega arith) c.requires.inside).0 in
-    omega arith
-
-pub overflow_add-key : goal.overflow_add-key
-overflow_add-key c =
-    let a = c.args in
-    let on = (inside_chain (view a.img.now) a.n a.key a.used (omega arith) c.requires.inside).0 in
-    omega arith
-
 pub unlike_from-requires : goal.unlike_from-requires
 unlike_from-requires c =
     let a = c.args in
     let here = inside_chain (view a.img.now) a.n a.key a.used (omega arith) c.requires.inside in record { readable = (c.requires.readable, omega arith, here.0); inside = here.1 }
-
-pub next_of-requires : goal.next_of-requires
-next_of-requires c =
-    let a = c.args in
-    let on = (inside_chain (view a.img.now) a.n a.key a.used (omega arith) c.requires.inside).0 in
-    omega arith
 
 pub unlike_in_blocks-requires : goal.unlike_in_blocks-requires
 unlike_in_blocks-requires c =
@@ -61,4 +43,4 @@ returns-else-unlike_from c =
     let a = c.args in
     let v = view a.img.now in
     let all = ap (λ s. eqb (twins v s) 0) (entries_chain v a.key a.used (omega arith)) ∙ c.unlike_from.ensures in
-    sym (rw c.if-unlike_from.false at all)
+    c.if-unlike_from.false ∙ sym (rw c.if-unlike_from.false at all)

@@ -1,15 +1,12 @@
--- `checks::gather_between` meets its contract. What was gathered and what is still to be gathered are the whole. The measure is the places left.
-use mathlib.Core.Path.{refl, sym, ◌∙◌}
+-- `checks::gather_between` meets its contract. What was gathered and what is still to be gathered are the whole.
+use mathlib.Core.Path.{sym, ◌∙◌}
 use native.Mathlib.Omega.{arith}
-use lib.ListN.{take, length-set}
+use lib.ListN.{take}
 use Rattle.model.specs.Bytes.{view}
 use Rattle.checks.proofs.Laws.{slot_in, active_more, active_same, active_end}
 use Rattle.checks.proofs.Gathered.{stored_on, stored_off, stored_end}
 use Rattle.checks.proofs.gather_between.Goals as goal
 use Rattle.checks.proofs.gather_between.Goals.{then-is_active, else-is_active}
-
-pub loop-place-init : goal.loop-place-init
-loop-place-init c = (omega arith, refl, refl, refl)
 
 pub overflow_cast-list : goal.overflow_cast-list
 overflow_cast-list c = let p = slot_in c.args.n c.loop-place.place (omega arith) in omega arith
@@ -23,15 +20,11 @@ loop-place-preserved c =
     elim c.if-is_active.branch [
       | then-is_active w ↦ let h = active_more v l.place a.end (omega arith) (sym t ∙ w.if-is_active.true) in (
         omega arith,
-        simp length-set (omega arith),
-        omega arith,
-        rw (w.count-is, c.address.ensures) (stored_on v l.place a.end (omega arith) l.list l.count (omega arith) (sym t ∙ w.if-is_active.true) ∙ l.invariant.3),
+        rw (w.count-is, c.address.ensures) (stored_on v l.place a.end (omega arith) l.list l.count (omega arith) (sym t ∙ w.if-is_active.true) ∙ l.invariant.1),
       )
       | else-is_active w ↦ let h = active_same v l.place a.end (omega arith) (sym t ∙ w.if-is_active.false) in (
         omega arith,
-        simp length-set (omega arith),
-        omega arith,
-        rw (w.count-is, c.address.ensures) (stored_off v l.place a.end (omega arith) l.list l.count (omega arith) (sym t ∙ w.if-is_active.false) ∙ l.invariant.3),
+        rw (w.count-is, c.address.ensures) (stored_off v l.place a.end (omega arith) l.list l.count (omega arith) (sym t ∙ w.if-is_active.false) ∙ l.invariant.1),
       )
     ]
 
@@ -40,4 +33,4 @@ returns c =
     let a = c.args in
     let l = c.loop-place in
     let v = view a.img.now in
-    let h = active_end v l.place a.end (omega arith) in record { value = omega arith; list_after = sym (stored_end v l.place a.end (omega arith) (take l.count l.list)) ∙ l.invariant.3 }
+    let h = active_end v l.place a.end (omega arith) in record { value = omega arith; list_after = sym (stored_end v l.place a.end (omega arith) (take l.count l.list)) ∙ l.invariant.1 }

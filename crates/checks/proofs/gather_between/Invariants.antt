@@ -1,15 +1,12 @@
--- `checks::gather_between` meets its contract. What was gathered and what is still to be gathered are the whole. The measure is the places left.
+-- `checks::gather_between` meets its contract. What was gathered and what is still to be gathered are the whole.
 use mathlib.Core.Path.{◌≡◌}
 use mathlib.Core.List.{◌++◌}
-use Prim.Native.Nat.{◌+◌, ◌-◌, ◌≤◌}
-use lib.ListN.{length, take}
+use Prim.Native.Nat.{◌+◌, ◌-◌}
+use lib.ListN.{take}
 use Rattle.model.specs.Bytes.{view, run}
 use Rattle.model.specs.Directory.{active}
 use Rattle.checks.specs.Inside.{actives}
 use Rattle.checks.proofs.gather_between.Given as goal
 
 abbrev pub invariant-loop-place : goal.invariant-loop-place
-invariant-loop-place l = (l.place ≤ l.end) × (length l.list ≡ length l.initial.list) × (l.count + active (view l.img) (run l.place (l.end - l.place)) ≡ l.at + active (view l.img) (run l.start (l.end - l.start))) × (take l.count l.list ++ actives (view l.img) (run l.place (l.end - l.place)) ≡ take l.at l.initial.list ++ actives (view l.img) (run l.start (l.end - l.start)))
-
-abbrev pub decreases-loop-place : goal.decreases-loop-place
-decreases-loop-place l = l.end - l.place
+invariant-loop-place l = (l.count + active (view l.img) (run l.place (l.end - l.place)) ≡ l.at + active (view l.img) (run l.start (l.end - l.start))) × (take l.count l.list ++ actives (view l.img) (run l.place (l.end - l.place)) ≡ take l.at l.initial.list ++ actives (view l.img) (run l.start (l.end - l.start)))

@@ -10,36 +10,12 @@ use Rattle.checks.proofs.Laws.{inside_chain, entries_chain, active_ahead}
 use Rattle.checks.proofs.Gathered.{actives_ahead}
 use Rattle.checks.proofs.gather_entries.Goals as goal
 
-pub overflow_mul-start : goal.overflow_mul-start
-overflow_mul-start c =
-    let a = c.args in
-    let on = (inside_chain (view a.img.now) a.n a.key a.used (omega arith) c.requires.readable.1).0 in
-    omega arith
-
-pub overflow_add-start : goal.overflow_add-start
-overflow_add-start c =
-    let a = c.args in
-    let on = (inside_chain (view a.img.now) a.n a.key a.used (omega arith) c.requires.readable.1).0 in
-    omega arith
-
-pub overflow_add-start-2 : goal.overflow_add-start-2
-overflow_add-start-2 c =
-    let a = c.args in
-    let on = (inside_chain (view a.img.now) a.n a.key a.used (omega arith) c.requires.readable.1).0 in
-    omega arith
-
 pub gather_between-count-requires : goal.gather_between-count-requires
 gather_between-count-requires c =
     let a = c.args in
     let v = view a.img.now in
     let on = (inside_chain v a.n a.key a.used (omega arith) c.requires.readable.1).0 in
     let all = ap (active v) (entries_chain v a.key a.used (omega arith)) ∙ active_ahead v (a.key * 13 + 1) a.key (a.used - 1) in record { readable = (c.requires.readable.0, omega arith, omega arith); start_in_bounds = omega arith }
-
-pub next_of-requires : goal.next_of-requires
-next_of-requires c =
-    let a = c.args in
-    let on = (inside_chain (view a.img.now) a.n a.key a.used (omega arith) c.requires.readable.1).0 in
-    omega arith
 
 pub gather_in_blocks-requires : goal.gather_in_blocks-requires
 gather_in_blocks-requires c =

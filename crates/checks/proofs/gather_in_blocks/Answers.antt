@@ -1,72 +1,51 @@
--- `checks::gather_in_blocks` meets its contract. What was gathered and what is still to be gathered are the whole. The measure is the blocks left.
+-- `checks::gather_in_blocks` meets its contract. What was gathered and what is still to be gathered are the whole.
 use mathlib.Core.List.{append_assoc, ◌++◌}
-use Rattle.checks.proofs.Laws.{inside_chain, slots_chain, active_ahead, active_none}
-use Rattle.checks.proofs.Gathered.{actives_ahead, gathered_none}
-use mathlib.Core.Path.{refl, sym, ap, ◌∙◌}
-use Prim.Native.Nat.{◌-◌, ◌*◌}
+use mathlib.Core.Path.{◌≡◌, refl, sym, ap, ◌∙◌}
+use Prim.Native.Nat.{◌+◌, ◌-◌}
 use native.Mathlib.Omega.{arith}
 use lib.ListN.{take}
 use Rattle.model.specs.Bytes.{view}
-use Rattle.model.specs.Directory.{active, next, chain, slots}
+use Rattle.model.specs.Directory.{chain, slots}
 use Rattle.checks.specs.Inside.{actives}
-use borrow.Author.Rules.{rules}
+use Rattle.checks.proofs.Laws.{coming, coming_next, active_next, active_none}
+use Rattle.checks.proofs.Gathered.{actives_next, gathered_none}
 use Rattle.checks.proofs.gather_in_blocks.Goals as goal
 
-pub loop-left-init : goal.loop-left-init
-loop-left-init c = (c.requires.readable.1, refl, refl, refl)
-
-pub overflow_mul-start : goal.overflow_mul-start
-overflow_mul-start c =
+pub loop-done-init : goal.loop-done-init
+loop-done-init c =
     let a = c.args in
-    let l = c.loop-left in
-    let on = (inside_chain (view a.img.now) a.n l.block l.left (omega arith) l.invariant.0).0 in
-    omega arith
-
-pub overflow_add-start : goal.overflow_add-start
-overflow_add-start c =
-    let a = c.args in
-    let l = c.loop-left in
-    let on = (inside_chain (view a.img.now) a.n l.block l.left (omega arith) l.invariant.0).0 in
-    omega arith
+    let z : a.blocks - 0 ≡ a.blocks = omega arith in
+    (coming (view a.img.now) a.n a.first a.blocks _ z c.requires.readable.1, rw z refl, rw z refl)
 
 pub gather_between-count-requires : goal.gather_between-count-requires
 gather_between-count-requires c =
     let a = c.args in
-    let v = view a.img.now in
-    let l = c.loop-left in
-    let on = (inside_chain v a.n l.block l.left (omega arith) l.invariant.0).0 in
-    let step = ap (active v) (slots_chain v l.block l.left (omega arith)) ∙ active_ahead v (l.block * 13) l.block (l.left - 1) in record { readable = (c.requires.readable.0, omega arith, omega arith); start_in_bounds = omega arith }
+    let l = c.loop-done in
+    let counted = active_next (view a.img.now) a.n l.block (a.blocks - l._done) _ _ refl refl (omega arith) in
+    record { readable = (c.requires.readable.0, omega arith, omega arith); start_in_bounds = omega arith }
 
-pub next_of-block-requires : goal.next_of-block-requires
-next_of-block-requires c =
-    let a = c.args in
-    let l = c.loop-left in
-    let on = (inside_chain (view a.img.now) a.n l.block l.left (omega arith) l.invariant.0).0 in
-    omega arith
-
-pub loop-left-preserved : goal.loop-left-preserved
-loop-left-preserved c =
+pub loop-done-preserved : goal.loop-done-preserved
+loop-done-preserved c =
     let a = c.args in
     let v = view a.img.now in
-    let l = c.loop-left in
-    let g = c.gather_between-count in
-    let here = inside_chain v a.n l.block l.left (omega arith) l.invariant.0 in
-    let first = slots_chain v l.block l.left (omega arith) in
-    let counted = ap (active v) first ∙ active_ahead v (l.block * 13) l.block (l.left - 1) in
-    let gathered = ap (actives v) first ∙ actives_ahead v (l.block * 13) l.block (l.left - 1) in
-    rw c.next_of-block.ensures (
-      here.1,
-      search rules,
+    let l = c.loop-done in
+    let b = c.next_of-block in
+    let left = a.blocks - l._done in
+    let k = a.blocks - (l._done + 1) in
+    let counted = active_next v a.n l.block left b.result k b.ensures (omega arith) (omega arith) in
+    let gathered = actives_next v a.n l.block left b.result k b.ensures (omega arith) (omega arith) in (
+      coming_next v a.n l.block left _ _ b.ensures (omega arith) (omega arith) l.invariant.0.inside,
       omega arith,
-      ap (λ z. z ++ actives v (slots (chain v (next v l.block) (l.left - 1)))) g.ensures.list_after
+      ap (λ z. z ++ actives v (slots (chain v b.result k))) c.gather_between-count.ensures.list_after
           ∙ append_assoc (take l.count l.list) _ _
           ∙ ap (λ z. take l.count l.list ++ z) (sym gathered)
-          ∙ l.invariant.3,
+          ∙ l.invariant.2,
     )
 
 pub returns : goal.returns
 returns c =
     let a = c.args in
     let v = view a.img.now in
-    let l = c.loop-left in
-    let none = active_none v l.block l.left (omega arith) in record { value = omega arith; list_after = sym (gathered_none v l.block l.left (omega arith) (take l.count l.list)) ∙ l.invariant.3 }
+    let l = c.loop-done in
+    let none = active_none v l.block (a.blocks - l._done) (omega arith) in
+    record { value = omega arith; list_after = sym (gathered_none v l.block (a.blocks - l._done) (omega arith) (take l.count l.list)) ∙ l.invariant.2 }

@@ -1,41 +1,29 @@
 -- `checks::header_right` meets its contract. The faults are none where the three tests hold.
-use Rattle.model.specs.Directory.{at}
-use Rattle.checks.proofs.Laws.{header_is}
-use Rattle.model.specs.Bytes.{◌and◌}
+use mathlib.Core.Path.{◌∙◌}
 use borrow.Author.Rules.{rules}
+use Rattle.model.specs.Directory.{at}
+use Rattle.checks.proofs.Laws.{header_is, second_if, second_not, third_if, third_not}
 use Rattle.checks.proofs.header_right.Goals as goal
-
-pub returns-then-not-header_fits : goal.returns-then-not-header_fits
-unfolding ◌and◌
-returns-then-not-header_fits c = rw (header_is _ _ _, ← c.header_fits.ensures, c.if-not-header_fits.true)
+use Rattle.checks.proofs.header_right.Goals.{then-header_fits, else-header_fits}
 
 pub points_at-requires : goal.points_at-requires
 unfolding at
 points_at-requires c = search rules
 
-pub returns-then-not-points_at : goal.returns-then-not-points_at
-unfolding ◌and◌
-returns-then-not-points_at c =
-    rw (
-      header_is _ _ _,
-      ← c.header_fits.ensures,
-      c.if-not-header_fits.false,
-      ← c.points_at.ensures,
-      c.if-not-points_at.true,
-    )
-
 pub address-requires : goal.address-requires
 unfolding at
 address-requires c = search rules
 
-pub returns : goal.returns
-unfolding ◌and◌
-returns c =
-    rw (
-      header_is _ _ _,
-      ← c.header_fits.ensures,
-      c.if-not-header_fits.false,
-      ← c.points_at.ensures,
-      c.if-not-points_at.false,
-      ← c.address.ensures,
-    ) c.alike_at.ensures
+pub returns-then-points_at : goal.returns-then-points_at
+returns-then-points_at c =
+    rw (header_is _ _ _, ← c.header_fits.ensures, ← c.address.ensures, ← c.alike_at.ensures)
+    (third_if c.if-header_fits.value _ _ _
+    (elim c.if-header_fits.branch [ then-header_fits w ↦ second_if _ _ _ w.if-header_fits.true (w.value-is ∙ w.points_at.ensures) | else-header_fits w ↦ second_not _ _ _ w.if-header_fits.false w.value-is ])
+    c.if-points_at.true)
+
+pub returns-else-points_at : goal.returns-else-points_at
+returns-else-points_at c =
+    rw (header_is _ _ _, ← c.header_fits.ensures)
+    (third_not c.if-header_fits.value _ _ _
+    (elim c.if-header_fits.branch [ then-header_fits w ↦ second_if _ _ _ w.if-header_fits.true (w.value-is ∙ w.points_at.ensures) | else-header_fits w ↦ second_not _ _ _ w.if-header_fits.false w.value-is ])
+    c.if-points_at.false)

@@ -1,15 +1,7 @@
--- `checks::is_active` meets its contract. The kind is not 0, also in the volume's own slot.
-use mathlib.Core.Path.{sym}
+-- `checks::is_active` meets its contract. The place's slot lies in the image.
 use native.Mathlib.Omega.{arith}
-use Rattle.model.specs.Bytes.{view}
-use Rattle.model.specs.Directory.{at}
-use Rattle.checks.proofs.Laws.{active_is}
+use Rattle.checks.proofs.Laws.{slot_in}
 use Rattle.checks.proofs.is_active.Goals as goal
 
 pub bounds-img-address : goal.bounds-img-address
-unfolding at
-bounds-img-address c = omega arith
-
-pub returns : goal.returns
-returns c =
-    rw c.address.ensures (sym (active_is (view c.args.img.now) c.args.place c.requires.0.2))
+bounds-img-address c = let p = slot_in c.args.n c.args.place (omega arith) in omega arith

@@ -26,7 +26,7 @@ no_twins-requires c =
     let g = c.gather_entries-count in
     let z : g.result - 0 ≡ g.result = omega arith in
     let e : take (g.result - 0) g.new.list ≡ actives v (drop 1 (slots (chain v c.args.key c.args.used))) = rw z g.ensures.list_after in
-    let few = few_active v c.args.key c.args.used c.requires.readable.2 in record { places_in_bounds = (simp length-take (omega arith), simp length-take (omega arith), simp length-take (omega (arith, few))); stored = rw (e, c.requires.readable.0.0) (entries_stored v c.args.n (chain v c.args.key c.args.used) c.requires.readable.1) }
+    let few = few_active v c.args.key c.args.used c.requires.readable.2 in record { places_in_bounds = (simp length-take (omega arith), simp length-take (omega (arith, few))); stored = rw (e, c.requires.readable.0.0) (entries_stored v c.args.n (chain v c.args.key c.args.used) c.requires.readable.1) }
 
 pub returns : goal.returns
 returns c =

@@ -1,4 +1,5 @@
 -- `create::create` meets its contract. By what houses the new entry; its name is the last part of the path.
+use Rattle.std.proofs.lemmas.Result.{err_from_is_err_and}
 use native.Mathlib.Omega.{arith}
 use mathlib.Core.Path.{sym, ap, ◌∙◌}
 use mathlib.Core.List.{List}
@@ -19,29 +20,30 @@ create_in-requires c =
     let a = c.args in
     let l = a.img.now in
     let p = a.path.now in
-    let e = sym c.housed_by.ensures ∙ c.in-In.is in
+    let e = sym c.housed_by.ensures ∙ c.in_ok-n.was in
     let w : Wanted = record { kind = a.kind; ftype = a.ftype; aux = a.aux; stamp = a.stamp } in
     let r = create_housed (length l) (view l) (view p) (length p) w _ _ (λ x. omega (arith, c.slice_known-1.given x)) e in
     let h = housed_in (length l) (view l) (view p) (length p) a.kind a.ftype _ _ e in
-    let short : length c.last_name-name.result.now ≤ 15 = rw c.last_name-name.ensures (last_size p h.proper) in
+    let short : length c.last_name.result.now ≤ 15 = rw c.last_name.ensures (last_size p h.proper) in
     ((r.0.least, r.0.most, r.0.whole), short, kind_small a.kind h.known, r.1)
 
-pub returns-in-Refused : goal.returns-in-Refused
-returns-in-Refused c =
+pub returns-in_err-n : goal.returns-in_err-n
+returns-in_err-n c =
     let a = c.args in
-    create_refused a.img.now (view a.path.now) (length a.path.now) (record { kind = a.kind; ftype = a.ftype; aux = a.aux; stamp = a.stamp }) _ (sym c.housed_by.ensures ∙ c.in-Refused.is)
+    let q = err_from_is_err_and c.from_residual.result c.from_residual.ensures.1 in
+    rw (q.1, q.2) (create_refused a.img.now (view a.path.now) (length a.path.now) (record { kind = a.kind; ftype = a.ftype; aux = a.aux; stamp = a.stamp }) _ (sym c.housed_by.ensures ∙ c.in_err-n.was))
 
-pub returns-in-In : goal.returns-in-In
-returns-in-In c =
+pub returns : goal.returns
+returns c =
     let a = c.args in
     let l = a.img.now in
     let p = a.path.now in
-    let e = sym c.housed_by.ensures ∙ c.in-In.is in
+    let e = sym c.housed_by.ensures ∙ c.in_ok-n.was in
     let w : Wanted = record { kind = a.kind; ftype = a.ftype; aux = a.aux; stamp = a.stamp } in
     let r = create_housed (length l) (view l) (view p) (length p) w _ _ (λ x. omega (arith, c.slice_known-1.given x)) e in
     let h = housed_in (length l) (view l) (view p) (length p) a.kind a.ftype _ _ e in
-    let n : ℕ = c.in-In.n in
-    let d : ℕ = place_number c.in-In.home.place in
-    let named = ap (λ (y : List ℕ). create_in n (view l) d (view y) (part 0 (length y)) w) c.last_name-name.ensures
+    let n : ℕ = c.in_ok-n.n in
+    let d : ℕ = place_number c.in_ok-n.home.place in
+    let named = ap (λ (y : List ℕ). create_in n (view l) d (view y) (part 0 (length y)) w) c.last_name.ensures
     ∙ in_same _ (view p) _ _ w (last_entry p h.proper w) (last_subdirectory p h.proper a.stamp) n (view l) d in
     rw (r.2 ∙ sym named) c.create_in.ensures

@@ -9,9 +9,9 @@ pub create_at-requires : goal.create_at-requires
 create_at-requires c =
     let v = view c.args.img.now in
     let H = c.requires.3 in
-    let r = vacancy_some _ _ (sym c.vacant_in.ensures ∙ c.in-Slot.is) in record { whole = (c.requires.0, c.requires.1, c.requires.2, H); vacant = (ap (vacant v) H.slots ∙ r.0, r.1) }
+    let r = vacancy_some _ _ (sym c.vacant_in.ensures ∙ c.in-Some.is) in record { whole = (c.requires.0, c.requires.1, c.requires.2, H); vacant = (ap (vacant v) H.slots ∙ r.0, r.1) }
 
 pub create_behind-requires : goal.create_behind-requires
 create_behind-requires c =
     let v = view c.args.img.now in
-    let H = c.requires.3 in record { whole = (c.requires.0, c.requires.1, c.requires.2, H); packed = ap (vacant v) H.slots ∙ vacancy_none _ (sym c.vacant_in.ensures ∙ c.in-Full.is) }
+    let H = c.requires.3 in record { whole = (c.requires.0, c.requires.1, c.requires.2, H); packed = ap (vacant v) H.slots ∙ vacancy_none _ (sym c.vacant_in.ensures ∙ c.in-None.is) }

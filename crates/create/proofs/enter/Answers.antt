@@ -14,12 +14,6 @@ use Rattle.create.specs.Entered.{asked}
 use Rattle.create.proofs.EnteredLaws.{entered_image}
 use Rattle.create.proofs.enter.Goals as goal
 
-pub overflow_add-end : goal.overflow_add-end
-overflow_add-end c = omega (arith, c.slot_at-start.ensures, at_place c.args.place c.requires.in_bounds.4)
-
-pub slice_bounds-write_entry-end : goal.slice_bounds-write_entry-end
-slice_bounds-write_entry-end c = omega (arith, c.slot_at-start.ensures, at_place c.args.place c.requires.in_bounds.4)
-
 pub returns : goal.returns
 returns c =
     let a = c.args in

@@ -1,4 +1,5 @@
 -- `directory::follow` meets its contract: the loop's invariant: the names from the cursor on, from `home` on, decide.
+use Rattle.std.specs.Prelude.{Ok}
 use mathlib.Core.Path.{◌≡◌, refl, sym, ap, ◌∙◌}
 use Prim.Native.Nat.{◌<◌}
 use lib.ListN.{length}
@@ -8,7 +9,7 @@ use Rattle.model.specs.Directory.{place, field}
 use Rattle.names.proofs.CursorLaws.{Stepped, step_found, stepped_bounds}
 use Rattle.directory.specs.Search.{listed, found_in}
 use Rattle.directory.specs.Lookup.{top}
-use Rattle.directory.proofs.LookupLaws.{stepped_within, no_end, no_bad, walking_searchable, turn_last, turn_stops, turn_on}
+use Rattle.directory.proofs.LookupLaws.{stepped_within, no_name, walking_searchable, turn_last, turn_stops, turn_on}
 use Rattle.directory.proofs.follow.Goals as goal
 
 pub loop-start-init : goal.loop-start-init
@@ -29,7 +30,7 @@ returns-then-end-path c =
     let l = c.loop-start in
     let w : Stepped (view xs) (length xs) l.cursor.at c.in-Name.start c.in-Name.end c.in-Name.next = step_found _ _ _ _ _ _ (sym c.step.ensures ∙ c.in-Name.is) in
     let f = c.find_in-found.ensures ∙ ap (λ y. found_in v y (listed v l.home.key l.home.used)) c.name_at-name.ensures in
-    c.last_of.ensures ∙ sym (turn_last _ v xs _ l.home _ c.requires.n_bound.2 l.invariant _ _ _ w _ f c.if-end-path.true)
+    ap Ok c.last_of.ensures ∙ sym (turn_last _ v xs _ l.home _ c.requires.n_bound.2 l.invariant _ _ _ w _ f c.if-end-path.true)
 
 pub returns-in_default : goal.returns-in_default
 returns-in_default c =
@@ -60,14 +61,9 @@ loop-start-preserved c =
     let b = stepped_bounds _ _ _ _ _ _ w in
     let f = c.find_in-found.ensures ∙ ap (λ y. found_in v y (listed v l.home.key l.home.used)) c.name_at-name.ensures in
     let m : c.in-Name.end < length xs = omega (arith, c.if-end-path.false) in
-    rw w.next (turn_on _ v xs _ l.home _ c.requires.n_bound.2 l.invariant _ _ _ w m _ _ f (sym c.inner_of.ensures ∙ c.in-Directory.is))
+    rw w.next (turn_on _ v xs _ l.home _ c.requires.n_bound.2 l.invariant _ _ _ w m _ _ f (sym c.inner_of.ensures ∙ c.in-Some.is))
 
 pub returns-in-End : goal.returns-in-End
 returns-in-End c =
     let l = c.loop-start in
-    no_end c.args.path.now l.cursor.at l.invariant.before l.invariant.proper (sym c.step.ensures ∙ c.in-End.is)
-
-pub returns-in-Bad : goal.returns-in-Bad
-returns-in-Bad c =
-    let l = c.loop-start in
-    no_bad c.args.path.now l.cursor.at l.invariant.before l.invariant.proper (sym c.step.ensures ∙ c.in-Bad.is)
+    no_name c.args.path.now l.cursor.at l.invariant.before l.invariant.proper c.step.result c.step.ensures c.in-End.is

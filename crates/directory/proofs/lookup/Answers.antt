@@ -8,7 +8,7 @@ use Rattle.model.specs.Directory.{volume, along}
 use Rattle.names.specs.Steps.{step_at, parts_left}
 use Rattle.names.proofs.CursorLaws.{Stepped, step_found, stepped_bounds, stepped_proper}
 use Rattle.directory.specs.Lookup.{looked_as}
-use Rattle.directory.proofs.LookupLaws.{sane_blocks, path_before, path_proper, stepped_within, header_same, lookup_other, lookup_names, lookup_volume, no_end, no_bad}
+use Rattle.directory.proofs.LookupLaws.{sane_blocks, path_before, path_proper, stepped_within, header_same, lookup_other, lookup_names, lookup_volume, no_name}
 use Rattle.directory.proofs.lookup.Goals as goal
 
 pub name_at-name-requires : goal.name_at-name-requires
@@ -64,10 +64,4 @@ pub returns-in-End : goal.returns-in-End
 returns-in-End c =
     let xs = c.args.path.now in
     let o = ap (λ x. step_at (view xs) (length xs) x.at) c.new.ensures in
-    no_end xs 0 (path_before xs c.requires.path_value) (path_proper xs c.requires.path_value) (sym (c.step.ensures ∙ o) ∙ c.in-End.is)
-
-pub returns-in-Bad : goal.returns-in-Bad
-returns-in-Bad c =
-    let xs = c.args.path.now in
-    let o = ap (λ x. step_at (view xs) (length xs) x.at) c.new.ensures in
-    no_bad xs 0 (path_before xs c.requires.path_value) (path_proper xs c.requires.path_value) (sym (c.step.ensures ∙ o) ∙ c.in-Bad.is)
+    no_name xs 0 (path_before xs c.requires.path_value) (path_proper xs c.requires.path_value) c.step.result (c.step.ensures ∙ o) c.in-End.is

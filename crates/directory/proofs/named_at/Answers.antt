@@ -7,16 +7,13 @@ use native.Mathlib.Omega.{arith}
 use Rattle.model.specs.Bytes.{view}
 use Rattle.model.specs.Names.{part, same_name}
 use Rattle.model.specs.Directory.{at, sort}
-use Rattle.directory.specs.Slots.{place_number, entry_of}
-use Rattle.directory.proofs.SlotLaws.{at_place, slot_named, says_inactive, says_improper}
+use Rattle.directory.specs.Slots.{place_number}
+use Rattle.directory.proofs.SlotLaws.{at_place, slot_named, says_none}
 use Rattle.directory.proofs.SearchLaws.{found_here, found_other, found_inactive}
 use Rattle.directory.proofs.named_at.Goals as goal
 
-pub entry_at-requires : goal.entry_at-requires
-entry_at-requires c = (c.requires.0, c.requires.1, c.requires.2.entry)
-
-pub overflow_add-end : goal.overflow_add-end
-overflow_add-end c = omega (arith, at_place c.args.place c.requires.0)
+pub overflow_add-start : goal.overflow_add-start
+overflow_add-start c = omega (arith, at_place c.args.place c.requires.0)
 
 pub slice_bounds-same_name-end : goal.slice_bounds-same_name-end
 slice_bounds-same_name-end c = omega (arith, at_place c.args.place c.requires.0)
@@ -45,12 +42,4 @@ pub returns-in-Inactive : goal.returns-in-Inactive
 returns-in-Inactive c =
     let a = c.args in
     let v = view a.img.now in
-    let s = place_number a.place in
-    found_inactive v _ _ a.place (says_inactive (sort v s) (entry_of v (at s)) (sym c.entry_at.ensures ∙ c.in-Inactive.is))
-
-pub returns-in-Improper : goal.returns-in-Improper
-returns-in-Improper c =
-    let a = c.args in
-    let v = view a.img.now in
-    let s = place_number a.place in
-    absurd (c.requires.2.proper (says_improper (sort v s) (entry_of v (at s)) (sym c.entry_at.ensures ∙ c.in-Improper.is)))
+    found_inactive v _ _ a.place (says_none (sort v (place_number a.place)) _ _ c.requires.2.proper c.entry_at.ensures c.in-Inactive.is)

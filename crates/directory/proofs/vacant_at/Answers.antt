@@ -3,12 +3,9 @@ use mathlib.Core.Path.{sym, ◌∙◌}
 use Rattle.model.specs.Bytes.{view}
 use Rattle.model.specs.Directory.{at, sort}
 use Rattle.directory.specs.Slots.{place_number, entry_of}
-use Rattle.directory.proofs.SlotLaws.{says_active, says_inactive, says_improper}
+use Rattle.directory.proofs.SlotLaws.{says_inactive, says_some}
 use Rattle.directory.proofs.SearchLaws.{vacancy_here, vacancy_past}
 use Rattle.directory.proofs.vacant_at.Goals as goal
-
-pub entry_at-requires : goal.entry_at-requires
-entry_at-requires c = (c.requires.0, c.requires.1, c.requires.2.entry)
 
 pub returns-in-Inactive : goal.returns-in-Inactive
 returns-in-Inactive c =
@@ -21,12 +18,4 @@ pub returns-in-Improper : goal.returns-in-Improper
 returns-in-Improper c =
     let a = c.args in
     let v = view a.img.now in
-    let s = place_number a.place in
-    absurd (c.requires.2.proper (says_improper (sort v s) (entry_of v (at s)) (sym c.entry_at.ensures ∙ c.in-Improper.is)))
-
-pub returns-in-Active : goal.returns-in-Active
-returns-in-Active c =
-    let a = c.args in
-    let v = view a.img.now in
-    let s = place_number a.place in
-    vacancy_past v a.place (says_active (sort v s) (entry_of v (at s)) _ (sym c.entry_at.ensures ∙ c.in-Active.is)).0
+    vacancy_past v a.place (says_some (sort v (place_number a.place)) _ _ c.requires.2.proper c.entry_at.ensures c.in-Improper.is)

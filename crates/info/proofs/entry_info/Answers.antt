@@ -5,4 +5,4 @@ use Rattle.info.proofs.entry_info.Goals as goal
 pub returns : goal.returns
 returns c =
     let x = c.args.entry in
-    ap (λ k. record { kind = k; ftype = x.ftype; access = x.access; aux = x.aux; used = x.used; eof = x.eof; created = x.created; modified = x.modified }) c.kind_number.ensures
+    ap (λ k. record { kind = k; ftype = x.ftype; access = x.access; aux = x.aux; used = x.used; eof = x.eof; created = x.created; modified = x.modified }) c.from.ensures

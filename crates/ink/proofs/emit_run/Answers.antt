@@ -1,31 +1,29 @@
--- `ink::emit_run` meets its contract. The invariant says what is left to be emitted.
+-- `ink::emit_run` meets its contract. The invariant says what has been emitted.
 use native.Mathlib.Omega.{arith}
-use mathlib.Core.Path.{refl, ap}
+use mathlib.Core.Path.{◌≡◌, refl, sym}
+use Prim.Native.Nat.{◌+◌, ◌-◌}
+use lib.ListN.{length, take, drop}
 use Rattle.model.specs.Bytes.{view}
-use Rattle.ink.specs.Ink.{sheet, emit}
-use Rattle.ink.proofs.InkLaws.{emit_rest, emit_done}
-use Rattle.ink.proofs.TextLaws.{text_at, text_next, text_end}
+use Rattle.model.proofs.ByteLaws.{view_read, length_part}
+use Rattle.ink.proofs.InkLaws.{prints_none, prints_as, byte_as, ◌then◌}
+use Rattle.ink.proofs.TextLaws.{text_at, text_end, text_more}
 use Rattle.ink.proofs.emit_run.Goals as goal
 
-pub loop-passed-init : goal.loop-passed-init
-loop-passed-init c =
-    let a = c.args in (
-      omega arith,
-      refl,
-      ap (λ l. emit l (sheet a.ink a.page.now)) (text_at (view a.s.now) _ _ _ _ (omega arith) (omega arith)),
-    )
+pub loop-byte-init : goal.loop-byte-init
+loop-byte-init c = let a = c.args in prints_as (sym (text_end (view a.s.now) a.start 0 refl)) prints_none
 
-pub loop-passed-preserved : goal.loop-passed-preserved
-loop-passed-preserved c =
+pub loop-byte-preserved : goal.loop-byte-preserved
+loop-byte-preserved c =
     let a = c.args in
-    let l = c.loop-passed in (
-      omega arith,
-      omega arith,
-      emit_rest _ _ _ (text_next (view a.s.now) a.start a.count l.passed (omega arith)) c.emit_byte-now.ensures l.invariant.2,
-    )
+    let i = c.loop-byte.byte-index in
+    let k = a.start + a.count - a.start in
+    let n : length (take k (drop a.start a.s.now)) ≡ k = length_part a.s.now a.start k (omega arith) in
+    let e = view_read a.s.now a.start k i (omega arith) in
+    prints_as (text_more (view a.s.now) a.start i) (c.loop-byte.invariant then byte_as e c.emit_byte-now.ensures)
 
 pub returns : goal.returns
 returns c =
     let a = c.args in
-    let l = c.loop-passed in
-    emit_done _ _ _ _ (text_end (view a.s.now) _ _ (omega arith)) l.invariant.2
+    let k = a.start + a.count - a.start in
+    let n : length (take k (drop a.start a.s.now)) ≡ k = length_part a.s.now a.start k (omega arith) in
+    prints_as (text_at (view a.s.now) a.start a.start c.loop-byte.byte-index a.count refl (omega arith)) c.loop-byte.invariant

@@ -9,7 +9,7 @@ use Rattle.directory.proofs.SearchLaws.{rest}
 use Rattle.ink.specs.Ink.{sheet, emit}
 use Rattle.listing.specs.Walked.{walked, block_count, Listed}
 use Rattle.listing.proofs.WalkLaws.{Pending}
-use Prim.Native.Nat.{◌+◌, ◌-◌, ◌*◌, ◌≤◌}
+use Prim.Native.Nat.{◌+◌, ◌-◌, ◌*◌}
 use Rattle.listing.proofs.+list_block_list_directory_list_entry.Given as goal
 
 abbrev pub decreases-list_block : goal.decreases-list_block
@@ -24,24 +24,17 @@ decreases-list_entry l = 3 * l.levels
 abbrev pub invariant-list_block-loop-slot : goal.invariant-list_block-loop-slot
 invariant-list_block-loop-slot l =
     let p = text (view l.initial.path) 0 l.len in
-    (1 ≤ l.slot)
-    × (length l.page ≡ length l.initial.page)
+    (length l.page ≡ length l.initial.page)
     × (length l.path ≡ length l.initial.path)
     × Each (Listed (view l.img) l.levels) (slots_from l.block l.slot)
     × (text (view l.path) 0 l.len ≡ p)
     × (emit (walked (view l.img) l.levels p (slots_from l.block l.slot)) (sheet l.now l.page) ≡ emit (walked (view l.img) l.levels p (slots_from l.block l.first)) (sheet l.initial.now l.initial.page))
 
-abbrev pub decreases-list_block-loop-slot : goal.decreases-list_block-loop-slot
-decreases-list_block-loop-slot l = 14 - l.slot
-
-abbrev pub invariant-list_directory-loop-left : goal.invariant-list_directory-loop-left
-invariant-list_directory-loop-left l =
+abbrev pub invariant-list_directory-loop : goal.invariant-list_directory-loop
+invariant-list_directory-loop l =
     let p = text (view l.initial.path) 0 l.len in
     (length l.page ≡ length l.initial.page)
     × (length l.path ≡ length l.initial.path)
-    × Pending (block_count l.img) (view l.img) l.levels l.block l.left l.first
+    × Pending (block_count l.img) (view l.img) l.levels l.block (l.used - l.counter) l.first
     × (text (view l.path) 0 l.len ≡ p)
-    × (emit (walked (view l.img) l.levels p (rest (view l.img) l.block l.left l.first)) (sheet l.now l.page) ≡ emit (walked (view l.img) l.levels p (listed (view l.img) l.key l.used)) (sheet l.initial.now l.initial.page))
-
-abbrev pub decreases-list_directory-loop-left : goal.decreases-list_directory-loop-left
-decreases-list_directory-loop-left l = l.left
+    × (emit (walked (view l.img) l.levels p (rest (view l.img) l.block (l.used - l.counter) l.first)) (sheet l.now l.page) ≡ emit (walked (view l.img) l.levels p (listed (view l.img) l.key l.used)) (sheet l.initial.now l.initial.page))

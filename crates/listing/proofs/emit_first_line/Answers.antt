@@ -6,19 +6,9 @@ use Rattle.model.specs.Bytes.{view}
 use Rattle.model.specs.Map.{room}
 use Rattle.model.specs.Directory.{at}
 use Rattle.model.specs.Catalog.{space', decimal, first_line}
-use Rattle.claims.proofs.SoundFacts.{sound_facts}
 use Rattle.ink.proofs.InkLaws.{prints_as, ◌then◌}
 use Rattle.listing.proofs.WalkLaws.{map_inside}
 use Rattle.listing.proofs.emit_first_line.Goals as goal
-
-pub bounds-img-1028 : goal.bounds-img-1028
-bounds-img-1028 c = omega (arith, (sound_facts _ _ c.requires.1).least)
-
-pub emit_run-name-requires : goal.emit_run-name-requires
-emit_run-name-requires c = omega (arith, (sound_facts _ _ c.requires.1).least)
-
-pub get_word-requires : goal.get_word-requires
-get_word-requires c = omega (arith, (sound_facts _ _ c.requires.1).least)
 
 pub free_blocks-free-requires : goal.free_blocks-free-requires
 free_blocks-free-requires c = omega (arith, map_inside _ _ _ c.requires.1 c.get_word.ensures.value)

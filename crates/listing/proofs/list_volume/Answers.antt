@@ -1,12 +1,8 @@
 -- `listing::list_volume` meets its contract. The first line, then the slots of the volume directory.
 use native.Mathlib.Omega.{arith}
-use Rattle.claims.proofs.SoundFacts.{sound_facts}
 use Rattle.ink.proofs.InkLaws.{prints_as, ◌then◌}
 use Rattle.listing.proofs.WalkLaws.{whole, volume_chained, volume_text}
 use Rattle.listing.proofs.list_volume.Goals as goal
-
-pub extend-len-requires : goal.extend-len-requires
-extend-len-requires c = omega (arith, (sound_facts _ _ c.requires.1).least)
 
 pub list_directory-requires : goal.list_directory-requires
 list_directory-requires c =

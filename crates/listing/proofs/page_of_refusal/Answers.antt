@@ -5,4 +5,4 @@ use Rattle.listing.proofs.page_of_refusal.Goals as goal
 
 pub returns : goal.returns
 unfolding text refused_line
-returns c = shows _ _ _ _ _ (c.emit_run-word.ensures then c.emit_hex_byte-digits.ensures then c.emit_byte-end.ensures)
+returns c = shows _ _ _ _ _ (rw c.blank.ensures at c.emit_run-word.ensures then c.emit_hex_byte-digits.ensures then c.emit_byte.ensures)

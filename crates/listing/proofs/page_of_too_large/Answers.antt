@@ -5,4 +5,4 @@ use Rattle.listing.proofs.page_of_too_large.Goals as goal
 
 pub returns : goal.returns
 unfolding text too_large_line
-returns c = shows _ _ _ _ _ c.emit_run-end.ensures
+returns c = shows _ _ _ _ _ (rw c.blank.ensures at c.emit_run.ensures)

@@ -21,5 +21,5 @@ returns c =
     let i = a.img.now in
     let x = a.number * 512 in
     let y = c.say_bytes in
-    block_said (length i) (view i) a.number c.if-img-end.false c.good.ensures
+    block_said (length i) (view i) a.number c.if-img-end.false refl
     (part_as (λ f n. Prints (bytes_line f n) (sheet a.ink a.page.now) (sheet y.result y.new.page)) i x (x + 512) 512 refl c.if-img-end.false y.ensures)

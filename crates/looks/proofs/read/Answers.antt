@@ -37,4 +37,4 @@ returns c =
     let w = part_as (λ f j. ReadsInto (read (length i) (view i) (cut (view ts) 0 z) z (view vs 1) (equals j 0xA5) j) j s y.result y.new.buffer y.new.page) x 0 k k (omega arith) m q in
     let d = y.auto.buffer ∙ part_as (λ f j. n ≡ j) x 0 k k (omega arith) m refl in
     if_so _ _ _ (le-leb k (length x) m)
-    (done_leaves c.good.ensures refl (front_back x y.new.buffer k m d ∙ ap (paste (view x) 0 k) w.buffer) w.page)
+    (done_leaves refl refl (front_back x y.new.buffer k m d ∙ ap (paste (view x) 0 k) w.buffer) w.page)

@@ -8,53 +8,11 @@ use Rattle.opening.specs.Opened.{opened_by}
 use Rattle.lines.specs.Commands.{held}
 use Rattle.lines.proofs.LeftLaws.{done_leaves}
 use Rattle.looks.specs.Looks.{space_line, info_line, found_line, looked}
-use Rattle.looks.proofs.LookLaws.{says_leaves, looked_by}
+use Rattle.looks.proofs.LookLaws.{looked_by}
 use Rattle.lines.proofs.PartLaws.{text_as}
 use Rattle.lines.proofs.ReadLaws.{fits_by}
 use Rattle.lines.specs.declared.Command.TheVariants as command
 use Rattle.looks.proofs.run.Goals as goal
-
-pub block-requires : goal.block-requires
-block-requires c =
-    let fit = fits_by c.args.values.now (ap command.Look c.in-Block.is) refl c.requires.0 in
-    fit 0 (omega arith)
-
-pub slice_bounds-get_info-end : goal.slice_bounds-get_info-end
-slice_bounds-get_info-end c =
-    let fit = fits_by c.args.values.now (ap command.Look c.in-GetInfo.is) refl c.requires.0 in
-    omega (arith, fit 0 (omega arith))
-
-pub read-requires : goal.read-requires
-read-requires c =
-    let fit = fits_by c.args.values.now (ap command.Look c.in-Read.is) refl c.requires.0 in
-    (c.requires.1, fit 0 (omega arith))
-
-pub slice_bounds-find-end : goal.slice_bounds-find-end
-slice_bounds-find-end c =
-    let fit = fits_by c.args.values.now (ap command.Look c.in-Find.is) refl c.requires.0 in
-    omega (arith, fit 0 (omega arith))
-
-pub returns-in-Digest : goal.returns-in-Digest
-unfolding looked
-returns-in-Digest c =
-    let a = c.args in
-    let bs = a.buffer.now in
-    let n = length a.img.now in
-    let v = view a.img.now in
-    let f = held a.values.now a.room.now bs in
-    looked_by n v (length bs) f c.in-Digest.is
-    (done_leaves c.good.ensures refl refl c.say_digest.ensures)
-
-pub returns-in-Block : goal.returns-in-Block
-unfolding looked
-returns-in-Block c =
-    let a = c.args in
-    let bs = a.buffer.now in
-    let n = length a.img.now in
-    let v = view a.img.now in
-    let f = held a.values.now a.room.now bs in
-    looked_by n v (length bs) f c.in-Block.is
-    (says_leaves f refl c.block.ensures)
 
 pub returns-in-Space : goal.returns-in-Space
 unfolding looked space_line
@@ -66,7 +24,7 @@ returns-in-Space c =
     let f = held a.values.now a.room.now bs in
     let y = c.space.ensures in
     looked_by n v (length bs) f c.in-Space.is
-    (done_leaves c.good-in-Space.ensures refl refl (rw (y.said, y.told) at c.say_space.ensures))
+    (done_leaves refl refl refl (rw (y.said, y.told) at c.say_space.ensures))
 
 pub returns-in-GetInfo : goal.returns-in-GetInfo
 unfolding looked
@@ -79,19 +37,8 @@ returns-in-GetInfo c =
     let y = c.get_info in
     let fit = fits_by a.values.now (ap command.Look c.in-GetInfo.is) refl c.requires.0 in
     looked_by n v (length bs) f c.in-GetInfo.is
-    (done_leaves c.good-in-GetInfo.ensures refl refl
+    (done_leaves refl refl refl
     (text_as (λ p k. Prints (info_line n v p k) (sheet a.ink a.page.now) (sheet y.result y.new.page)) a.values.now a.room.now (omega (arith, c.requires.1, fit 0 (omega arith))) y.ensures))
-
-pub returns-in-Read : goal.returns-in-Read
-unfolding looked
-returns-in-Read c =
-    let a = c.args in
-    let bs = a.buffer.now in
-    let n = length a.img.now in
-    let v = view a.img.now in
-    let f = held a.values.now a.room.now bs in
-    looked_by n v (length bs) f c.in-Read.is
-    c.read.ensures
 
 pub returns-in-Find : goal.returns-in-Find
 unfolding looked
@@ -104,5 +51,5 @@ returns-in-Find c =
     let y = c.find in
     let fit = fits_by a.values.now (ap command.Look c.in-Find.is) refl c.requires.0 in
     looked_by n v (length bs) f c.in-Find.is
-    (done_leaves c.good-in-Find.ensures refl refl
+    (done_leaves refl refl refl
     (text_as (λ p k. Prints (found_line n v (opened_by n v p k)) (sheet a.ink a.page.now) (sheet y.result y.new.page)) a.values.now a.room.now (omega (arith, c.requires.1, fit 0 (omega arith))) y.ensures))

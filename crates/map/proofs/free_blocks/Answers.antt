@@ -1,36 +1,36 @@
--- `map::free_blocks` meets its contract. The loop's invariant: the count is the room of the blocks passed. The measure is the blocks left.
-use mathlib.Core.Path.{◌≡◌, sym, ap, ◌∙◌}
+-- `map::free_blocks` meets its contract. Whole bytes are counted by their bits, the blocks behind them one by one.
+use mathlib.Core.Path.{◌≡◌, refl, ap}
+use Prim.Native.Nat.{ℕ, ◌+◌, ◌-◌, ◌*◌, ◌/◌, ◌≤◌, ◌<◌}
+use lib.Dec.{eqb}
+use lib.ListN.{length}
 use native.Mathlib.Omega.{arith}
-use borrow.Author.Tests.{eqb-true}
-use Rattle.model.specs.Bytes.{view}
-use Rattle.model.specs.Map.{room, free, map_blocks}
-use Rattle.model.proofs.BitLaws.{map_at_in}
-use Rattle.map.proofs.Laws.{room_next, not_free}
 use borrow.Author.Rules.{rules}
+use borrow.Author.Tests.{tests}
+use Rattle.std.proofs.lemmas.Iterator.{serves_from_Range, YieldsList-from_range}
+use Rattle.std.proofs.lemmas.Iterator.Consumers.{YieldsList-from_filter, count_from_yields_List}
+use Rattle.model.specs.Bytes.{view}
+use Rattle.model.specs.Map.{room, free, map_at, map_blocks}
+use Rattle.model.proofs.BitLaws.{map_at_in, room_le}
+use Rattle.map.proofs.Laws.{room_total}
 use Rattle.map.proofs.free_blocks.Goals as goal
-use Rattle.map.proofs.free_blocks.Goals.{then-is_free, else-is_free}
 
-pub free_in_bytes-count-requires : goal.free_in_bytes-count-requires
-unfolding map_blocks
-free_in_bytes-count-requires c = search rules
-
-pub is_free-requires : goal.is_free-requires
-is_free-requires c = let a = c.args in omega (arith, map_at_in a.m a.n c.loop-b.b (omega arith))
-
-pub loop-b-preserved : goal.loop-b-preserved
-loop-b-preserved c =
+pub count-rest-requires-clause-can : goal.count-rest-requires-clause-can
+count-rest-requires-clause-can c =
     let a = c.args in
-    let l = c.loop-b in
-    let v = view a.img.now in
-    let n = room_next a.m v l.b in
-    let t = c.is_free.ensures in
-    elim c.if-is_free.branch [
-      | then-is_free w ↦ let f = eqb-true (free a.m v l.b) 1 (sym t ∙ w.if-is_free.true) in (omega arith, omega arith, omega arith)
-      | else-is_free w ↦ let f = not_free a.m v l.b (sym t ∙ w.if-is_free.false) in (omega arith, omega arith, omega arith)
-    ]
+    let e : c.filter.result.iter.end ≡ a.n = ap (λ r. r.end) c.filter.ensures.source in
+    let within = λ (x : ℕ) (high : x < c.filter.result.iter.end). map_at_in a.m a.n x (omega arith) in
+    (tt, tt, serves_from_Range (λ x q k. search (rules, tests)) (λ x low high. let h : map_at a.m x < length a.img.now = omega (arith, within x high) in search rules))
 
 pub returns : goal.returns
 returns c =
     let a = c.args in
-    let e : c.loop-b.b ≡ a.n = omega arith in
-    (c.loop-b.invariant.1 ∙ ap (room a.m (view a.img.now)) e, omega arith)
+    let v = view a.img.now in
+    let d : a.m * 512 + a.n / 8 - a.m * 512 ≡ a.n / 8 = omega arith in
+    let whole = rw d at c.ones_in.ensures in
+    let rest =
+    count_from_yields_List _ _ c.count-rest.ensures.ran
+    (YieldsList-from_filter _ (λ b. eqb (free a.m v b) 1) (YieldsList-from_range (a.n / 8 * 8) a.n (a.n - a.n / 8 * 8) c.filter.ensures.source refl)
+    c.filter.ensures.closure (λ x b q k. search (rules, tests))) in
+    let fits : a.m * 512 + a.n / 8 ≤ length a.img.now = unfold map_blocks in omega arith in
+    let e : c.ones_in.result + c.count-rest.result ≡ room a.m v a.n = rw (whole, rest) (room_total a.img.now a.m a.n fits (λ i. omega (arith, c.type_inv.img i))) in
+    (e, rw e (room_le a.m v a.n))

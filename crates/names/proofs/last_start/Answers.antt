@@ -1,31 +1,14 @@
--- `names::last_start` meets its contract: the loop's invariant: the last name begins where it does among the first bytes, and the measure is their number.
-use native.Mathlib.Omega.{arith}
-use mathlib.Core.Path.{◌≡◌, refl, sym, ◌∙◌}
-use Prim.Native.Nat.{suc, ◌-◌}
+-- `names::last_start` meets its contract: behind the last slash, or at the start where there is none.
+use Rattle.std.proofs.Common.{rules, arith, sym, ◌<◌, length}
 use Rattle.model.specs.Bytes.{view}
-use Rattle.names.proofs.Laws.{last_here, last_more, last_none}
+use Rattle.names.proofs.Laws.{last_at, last_nowhere}
 use Rattle.names.proofs.last_start.Goals as goal
 
-pub loop-start-init : goal.loop-start-init
-loop-start-init c = (omega arith, refl)
-
-pub returns-then-path-before-eq-SLASH : goal.returns-then-path-before-eq-SLASH
-returns-then-path-before-eq-SLASH c =
-    let l = c.loop-start in
+pub returns-in-Some : goal.returns-in-Some
+returns-in-Some c =
     let s = c.args.path.now in
-    let e : l.start ≡ suc (l.start - 1) = omega arith in
-    (sym (l.invariant.1 ∙ last_here (view s) _ _ e c.if-path-before-eq-SLASH.true), omega arith)
+    let l : c.in-Some.at < length s = search rules in
+    (sym (last_at (view s) _ _ l (search rules) (search rules)), omega (arith, l))
 
-pub loop-start-preserved : goal.loop-start-preserved
-loop-start-preserved c =
-    let l = c.loop-start in
-    let s = c.args.path.now in
-    let e : l.start ≡ suc (l.start - 1) = omega arith in
-    (omega arith, l.invariant.1 ∙ last_more (view s) _ _ e c.if-path-before-eq-SLASH.false)
-
-pub returns : goal.returns
-returns c =
-    let l = c.loop-start in
-    let s = c.args.path.now in
-    let e : l.start ≡ 0 = omega arith in
-    (e ∙ sym (l.invariant.1 ∙ rw e (last_none (view s))), omega arith)
+pub returns-in-None : goal.returns-in-None
+returns-in-None c = let s = c.args.path.now in (sym (last_nowhere (view s) _ (search rules)), omega arith)

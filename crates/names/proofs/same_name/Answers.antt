@@ -1,14 +1,14 @@
 -- `names::same_name` meets its contract: the sizes, then the bytes.
-use mathlib.Core.Path.{sym, ◌∙◌}
-use borrow.Author.Tests.{eq-eqb, ne_eqb}
+use Rattle.std.proofs.Common.{arith}
+use Rattle.std.proofs.lemmas.Grind.{common_steps}
 use Rattle.model.specs.Bytes.{◌and◌}
 use Rattle.model.specs.Names.{same_name}
 use Rattle.names.proofs.same_name.Goals as goal
 
-pub returns-then-wide-n : goal.returns-then-wide-n
+pub returns-then-from-n : goal.returns-then-from-n
 unfolding same_name ◌and◌
-returns-then-wide-n c = rw (eq-eqb _ _ (sym c.wide.ensures ∙ c.if-wide-n.true)) c.are_capitals.ensures
+returns-then-from-n c = grind (arith, common_steps)
 
-pub returns-else-wide-n : goal.returns-else-wide-n
+pub returns-else-from-n : goal.returns-else-from-n
 unfolding same_name ◌and◌
-returns-else-wide-n c = rw (ne_eqb _ _ (λ e. c.if-wide-n.false (c.wide.ensures ∙ e)))
+returns-else-from-n c = grind (arith, common_steps)

@@ -18,17 +18,17 @@ returns-then-img-gt-MOST c =
 pub page_of_volume-requires : goal.page_of_volume-requires
 page_of_volume-requires c =
     let l = c.args.img.now in
-    let f = volume_sound (length l) (view l) _ (sym c.volume_in.ensures ∙ c.in-Sound.is) in
+    let f = volume_sound (length l) (view l) _ (sym c.volume_in.ensures ∙ c.in-Ok.is) in
     (f.whole, f.sane)
 
-pub returns-in-Refused : goal.returns-in-Refused
-returns-in-Refused c =
+pub returns-in-Err : goal.returns-in-Err
+returns-in-Err c =
     let l = c.args.img.now in
     let h : length l ≤ catalog_most = omega arith in
-    rw (refused_line_law (length l) (view l) _ h (sym c.volume_in.ensures ∙ c.in-Refused.is)) (rw (← c.refusal_number-number.ensures) c.page_of_refusal.ensures)
+    rw (refused_line_law (length l) (view l) _ h (sym c.volume_in.ensures ∙ c.in-Err.is)) (rw (← c.from-number.ensures) c.page_of_refusal.ensures)
 
-pub returns-in-Sound : goal.returns-in-Sound
-returns-in-Sound c =
+pub returns-in-Ok : goal.returns-in-Ok
+returns-in-Ok c =
     let l = c.args.img.now in
     let h : length l ≤ catalog_most = omega arith in
-    rw (listed (length l) (view l) _ h (sym c.volume_in.ensures ∙ c.in-Sound.is)) c.page_of_volume.ensures
+    rw (listed (length l) (view l) _ h (sym c.volume_in.ensures ∙ c.in-Ok.is)) c.page_of_volume.ensures

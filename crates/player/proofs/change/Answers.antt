@@ -1,5 +1,4 @@
--- `player::change` meets its contract. The image is lent as the first part of its room, and pasted back.
-use mathlib.Core.Path.{refl}
+-- `player::change` meets its contract. The image is lent as the first part of its room.
 use lib.ListN.{length}
 use Rattle.lines.specs.Commands.{held}
 use Rattle.changes.specs.Changes.{changed}
@@ -7,16 +6,16 @@ use Rattle.player.specs.Played.{obeyed}
 use Rattle.player.proofs.PlayedLaws.{on_image_law, changed_back}
 use Rattle.player.proofs.change.Goals as goal
 
-pub run-said-requires : goal.run-said-requires
-run-said-requires c = let pre = c.requires in (pre.0, pre.1)
-
-pub returns : goal.returns
+pub returns-in_err-said-clause-leaves : goal.returns-in_err-said-clause-leaves
 unfolding obeyed
-returns c = let a = c.args in
+returns-in_err-said-clause-leaves c = let a = c.args in
     let fits = c.requires.2 in
-    let f = c.run-said in record {
-      leaves = on_image_law a.image.now a.size fits (λ n v. changed a.change n v (length a.buffer.now) (held a.values.now a.room.now a.buffer.now)) a.ink.at a.buffer.now a.page.now _
-          (changed_back a.image.now a.size fits f.new.img f.auto.img)
-          f.ensures;
-      size_value = refl;
-    }
+    rw c.from_residual.ensures (on_image_law a.image.now a.size fits (λ n v. changed a.change n v (length a.buffer.now) (held a.values.now a.room.now a.buffer.now)) a.ink.at a.buffer.now a.page.now _ _ (changed_back a.image.now a.size fits c.run.new.img c.run.auto.img)
+    c.in_err-said.ensures)
+
+pub returns-clause-leaves : goal.returns-clause-leaves
+unfolding obeyed
+returns-clause-leaves c = let a = c.args in
+    let fits = c.requires.2 in
+    on_image_law a.image.now a.size fits (λ n v. changed a.change n v (length a.buffer.now) (held a.values.now a.room.now a.buffer.now)) a.ink.at a.buffer.now a.page.now _ _ (changed_back a.image.now a.size fits c.run.new.img c.run.auto.img)
+    c.in_ok-said.ensures

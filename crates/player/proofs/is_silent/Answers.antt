@@ -1,12 +1,15 @@
--- `player::is_silent` meets its contract: each return is a case of the definition.
+-- `player::is_silent` meets its contract: each way is a case of the definition.
+use mathlib.Core.Path.{◌∙◌}
+use borrow.Author.Tests.{lt-leb}
+use Rattle.std.proofs.Common.{rules, tests}
 use Rattle.player.proofs.PlayedLaws.{silent_empty, silent_long, silent_byte}
 use Rattle.player.proofs.is_silent.Goals as goal
 
-pub returns-then-line-eq0 : goal.returns-then-line-eq0
-returns-then-line-eq0 c = silent_empty _ _ c.if-line-eq0.true
+pub returns-then-is_empty : goal.returns-then-is_empty
+returns-then-is_empty c = rw c.if-is_empty.true (silent_empty _ _ (search (rules, tests)))
 
-pub returns-then-line-gt-LONGEST_LINE : goal.returns-then-line-gt-LONGEST_LINE
-returns-then-line-gt-LONGEST_LINE c = silent_long _ _ c.if-line-gt-LONGEST_LINE.true
+pub returns-then-line-le-LONGEST_LINE : goal.returns-then-line-le-LONGEST_LINE
+returns-then-line-le-LONGEST_LINE c = silent_byte _ _ (search (rules, tests)) c.if-line-le-LONGEST_LINE.true
 
-pub returns : goal.returns
-returns c = silent_byte _ _ c.if-line-eq0.false c.if-line-gt-LONGEST_LINE.false
+pub returns-else-line-le-LONGEST_LINE : goal.returns-else-line-le-LONGEST_LINE
+returns-else-line-le-LONGEST_LINE c = lt-leb _ _ c.if-line-le-LONGEST_LINE.false ∙ silent_long _ _ c.if-line-le-LONGEST_LINE.false

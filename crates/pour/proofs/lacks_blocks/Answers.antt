@@ -1,21 +1,21 @@
--- `pour::lacks_blocks` meets its contract: what is counted and what is still to be counted are the whole.
+-- `pour::lacks_blocks` meets its contract: each number of the range that passes counts 1.
+use Prim.Native.Nat.{◌-◌}
+use mathlib.Core.Path.{refl}
+use lib.Dec.{eqb}
+use Rattle.std.proofs.Common.{rules}
+use Rattle.std.proofs.lemmas.Iterator.{YieldsList-from_range}
+use Rattle.std.proofs.lemmas.Iterator.Consumers.{YieldsList-from_filter, count_from_yields_List}
 use Rattle.model.specs.Bytes.{view}
 use Rattle.model.specs.Grow.{lacks_block}
-use Rattle.pour.proofs.CountLaws.{sum_step, sum_end}
+use Rattle.pour.proofs.CountLaws.{test_of, counted, block_one}
 use native.Mathlib.Omega.{arith}
 use Rattle.pour.proofs.lacks_blocks.Goals as goal
-
-pub loop-q-init : goal.loop-q-init
-loop-q-init c = (omega arith, omega arith, omega arith, omega arith)
-
-pub loop-q-preserved : goal.loop-q-preserved
-loop-q-preserved c =
-    let a = c.args in
-    let l = c.loop-q in
-    (omega arith, omega arith, omega arith, omega (arith, c.lacks_block-count.ensures.0, sum_step (lacks_block (view a.img.now) a.height a.key) l.q a.end (omega arith)))
 
 pub returns : goal.returns
 returns c =
     let a = c.args in
-    let l = c.loop-q in
-    (omega (arith, sum_end (lacks_block (view a.img.now) a.height a.key) l.q a.end (omega arith)), omega arith)
+    let f = lacks_block (view a.img.now) a.height a.key in
+    let r = counted f (block_one (view a.img.now) a.height a.key) a.p (a.end - a.p) _
+    (count_from_yields_List c.filter.result _ c.count.ensures.ran
+    (YieldsList-from_filter _ (λ q. eqb (f q) 1) (YieldsList-from_range a.p a.end (a.end - a.p) c.filter.ensures.source refl) c.filter.ensures.closure (λ x b q k. search (rules, test_of)))) in
+    (r.0, omega (arith, r.1))

@@ -10,7 +10,7 @@ use Rattle.read.proofs.ReadLaws.{folder_number}
 use Rattle.opening.proofs.EntryLaws.{folder, no_folder}
 use Rattle.read.proofs.CodeLaws.{number_locked, number_far, number_end, number_none, entry_no, entry_moved}
 use Rattle.read.proofs.read_file.Goals as goal
-use Rattle.read.proofs.read_file.Goals.{then-size-ge1+else-position-eof, else-size-ge1}
+use Rattle.read.proofs.read_file.Goals.{else-size-ge1-via-then-size-ge1+else-position-eof, else-size-ge1-via-else-size-ge1}
 
 pub returns-then-height-eq3 : goal.returns-then-height-eq3
 returns-then-height-eq3 c =
@@ -50,7 +50,7 @@ returns c =
     let l = a.buffer.now in
     let v = view a.img.now in
     let f = no_folder a.entry.kind (λ e. c.if-height-eq3.false (c.height_of-height.ensures ∙ e)) in
-    let z = number_none a.entry a.position (length l) f c.if-entry-eq0.false c.if-eof-position.false (λ s p. elim c.if-size-ge1.branch [ then-size-ge1+else-position-eof w ↦ w.if-position-eof.false p | else-size-ge1 w ↦ omega arith ]) in
+    let z = number_none a.entry a.position (length l) f c.if-entry-eq0.false c.if-eof-position.false (λ s p. elim c.else-size-ge1.branch [ else-size-ge1-via-then-size-ge1+else-position-eof w ↦ w.if-position-eof.false p | else-size-ge1-via-else-size-ge1 w ↦ omega arith ]) in
     let k = c.least-count.result in
     let b =
     c.read_bytes.ensures

@@ -1,15 +1,14 @@
 -- `rename::is_other` meets its contract. Places are compared by block and slot.
-use mathlib.Core.Path.{sym, ap, ◌∙◌}
+use Rattle.std.proofs.Common.{arith}
+use Rattle.std.proofs.lemmas.Grind.{common_steps}
+use Rattle.model.specs.Bytes.{◌or◌}
 use Rattle.rename.specs.Renamed.{is_other_place}
-use Rattle.rename.proofs.RenameLaws.{other_same, other_block}
 use Rattle.rename.proofs.is_other.Goals as goal
 
-pub returns-then-at-place : goal.returns-then-at-place
-returns-then-at-place c = sym (ap (λ x. is_other_place x c.args.place) c.in-At.is ∙ other_same _ _ _ c.if-at-place.true)
+pub returns-in-Some : goal.returns-in-Some
+unfolding is_other_place ◌or◌
+returns-in-Some c = grind (arith, common_steps)
 
-pub returns-in-Missing : goal.returns-in-Missing
+pub returns-in-None : goal.returns-in-None
 unfolding is_other_place
-returns-in-Missing c = sym (ap (λ x. is_other_place x c.args.place) c.in-Missing.is)
-
-pub returns-else-at-place : goal.returns-else-at-place
-returns-else-at-place c = sym (ap (λ x. is_other_place x c.args.place) c.in-At.is ∙ other_block _ _ _ c.if-at-place.false)
+returns-in-None c = grind (arith, common_steps)

@@ -1,15 +1,14 @@
 -- `replies::put_digest` meets its contract. The four bytes of the digest, the highest first.
-use mathlib.Core.Path.{ap}
-use Rattle.ink.proofs.InkLaws.{prints_as, ◌then◌}
-use Rattle.replies.specs.Lines.{digest_text}
+use mathlib.Core.Path.{ap, ◌∙◌}
+use native.Mathlib.Omega.{arith}
+use lib.ListN.{length}
+use Rattle.model.specs.Bytes.{view}
+use Rattle.ink.proofs.InkLaws.{prints_as}
+use Rattle.replies.specs.Lines.{hex_text, digest_text}
+use Rattle.replies.proofs.LineLaws.{digest_hex}
 use Rattle.replies.proofs.put_digest.Goals as goal
 
 pub returns : goal.returns
-unfolding digest_text
 returns c =
-    prints_as
-    (ap digest_text c.digest-hash.ensures)
-    (c.emit_hex_byte-first.ensures
-    then c.emit_hex_byte-second.ensures
-    then c.emit_hex_byte-third.ensures
-    then c.emit_hex_byte.ensures)
+    let same = ap (λ bs. hex_text (view bs) 0 (length bs)) c.to_be_bytes.ensures in
+    prints_as (same ∙ digest_hex c.digest.result (omega arith) ∙ ap digest_text c.digest.ensures) c.put_hex.ensures

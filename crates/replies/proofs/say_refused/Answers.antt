@@ -8,5 +8,5 @@ pub returns : goal.returns
 unfolding text refused_line
 returns c =
     c.emit_run-word.ensures
-    then prints_as (ap hex_byte c.refusal_number.ensures) c.emit_hex_byte-number.ensures
+    then prints_as (ap hex_byte c.from.ensures) c.emit_hex_byte-number.ensures
     then c.emit_byte.ensures

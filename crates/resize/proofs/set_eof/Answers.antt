@@ -1,5 +1,7 @@
 -- `resize::set_eof` meets its contract, by what the path leads to.
-use mathlib.Core.Path.{sym, ◌∙◌}
+use Rattle.std.specs.Prelude.{Ok}
+use Rattle.std.proofs.lemmas.Result.{err_from_is_err_and}
+use mathlib.Core.Path.{sym, ◌∙◌, ap}
 use native.Mathlib.Omega.{arith}
 use lib.ListN.{length}
 use Rattle.model.specs.Bytes.{view}
@@ -11,25 +13,26 @@ set_entry-requires c =
     let a = c.args in
     let l = a.img.now in
     let p = a.path.now in
-    let r = set_eof_entry (length l) (view l) (view p) (length p) a.eof a.stamp _ _ _ _ (λ x. omega (arith, c.slice_known-1.given x)) (sym c.opened_by.ensures ∙ c.in-Entry.is) in
+    let r = set_eof_entry (length l) (view l) (view p) (length p) a.eof a.stamp _ _ _ _ (λ x. omega (arith, c.slice_known-1.given x)) (sym c.opened_by.ensures ∙ c.in_ok-opened_by.was ∙ ap Ok c.in-Entry.is) in
     (r.0.whole, r.2)
 
-pub returns-in-Refused : goal.returns-in-Refused
-returns-in-Refused c =
+pub returns-in_err-opened_by : goal.returns-in_err-opened_by
+returns-in_err-opened_by c =
     let a = c.args in
     let p = a.path.now in
-    set_eof_refused (view p) (length p) a.eof a.stamp a.img.now _ (sym c.opened_by.ensures ∙ c.in-Refused.is)
+    let q = err_from_is_err_and c.from_residual.result c.from_residual.ensures.1 in
+    rw (q.1, q.2) (set_eof_refused (view p) (length p) a.eof a.stamp a.img.now _ (sym c.opened_by.ensures ∙ c.in_err-opened_by.was))
 
 pub returns-in-Volume : goal.returns-in-Volume
 returns-in-Volume c =
     let a = c.args in
     let p = a.path.now in
-    set_eof_volume (view p) (length p) a.eof a.stamp a.img.now _ (sym c.opened_by.ensures ∙ c.in-Volume.is)
+    set_eof_volume (view p) (length p) a.eof a.stamp a.img.now _ (sym c.opened_by.ensures ∙ c.in_ok-opened_by.was ∙ ap Ok c.in-Volume.is)
 
 pub returns-in-Entry : goal.returns-in-Entry
 returns-in-Entry c =
     let a = c.args in
     let l = a.img.now in
     let p = a.path.now in
-    let r = set_eof_entry (length l) (view l) (view p) (length p) a.eof a.stamp _ _ _ _ (λ x. omega (arith, c.slice_known-1.given x)) (sym c.opened_by.ensures ∙ c.in-Entry.is) in
+    let r = set_eof_entry (length l) (view l) (view p) (length p) a.eof a.stamp _ _ _ _ (λ x. omega (arith, c.slice_known-1.given x)) (sym c.opened_by.ensures ∙ c.in_ok-opened_by.was ∙ ap Ok c.in-Entry.is) in
     rw r.1 c.set_entry.ensures

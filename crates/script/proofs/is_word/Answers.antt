@@ -1,23 +1,16 @@
 -- `script::is_word` meets its contract.
 use mathlib.Core.Path.{sym, ◌∙◌}
-use native.Mathlib.Omega.{arith}
+use borrow.Author.Tests.{lt-leb}
 use lib.ListN.{length}
 use Rattle.model.specs.Bytes.{view}
-use Rattle.script.proofs.FieldLaws.{word_other, word_past, word_by}
+use Rattle.script.proofs.FieldLaws.{word_past, word_by}
 use Rattle.script.proofs.is_word.Goals as goal
 
-pub returns-then-end-word : goal.returns-then-end-word
-returns-then-end-word c =
-    let a = c.args in
-    sym (word_other (view a.line.now) (length a.line.now) a.end (view a.word.now) (length a.word.now) (λ e. omega arith))
+pub returns-then-end-line : goal.returns-then-end-line
+returns-then-end-line c = let a = c.args in c.eq.ensures ∙ word_by a.line.now a.word.now a.end c.if-end-line.true
 
-pub returns-then-line-end : goal.returns-then-line-end
-returns-then-line-end c =
+pub returns-else-end-line : goal.returns-else-end-line
+returns-else-end-line c =
     let a = c.args in
-    sym (word_past (view a.line.now) (length a.line.now) a.end (view a.word.now) (length a.word.now) (omega arith) (omega arith))
-
-pub returns : goal.returns
-returns c =
-    let a = c.args in
-    c.same_bytes.ensures
-    ∙ sym (word_by (view a.line.now) (length a.line.now) a.end (view a.word.now) (length a.word.now) (omega arith) (omega arith))
+    let h = c.if-end-line.false in
+    lt-leb _ _ h ∙ sym (word_past (view a.line.now) (length a.line.now) a.end (view a.word.now) (length a.word.now) h)

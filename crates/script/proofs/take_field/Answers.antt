@@ -1,29 +1,42 @@
 -- `script::take_field` meets its contract, form by form.
-use Prim.Native.Nat.{◌-◌}
-use lib.ListN.{length}
+use mathlib.Core.Path.{◌≡◌, sym, ◌∙◌}
+use native.Mathlib.Omega.{arith}
+use Prim.Native.Nat.{◌-◌, ◌≤◌}
+use mathlib.Core.List.{◌++◌}
+use lib.ListN.{length, drop}
+use lib.Seq.{length-take-le}
+use borrow.Rule.Slice.PartMut.{put_mid}
 use Rattle.model.specs.Bytes.{view}
-use Rattle.script.proofs.FormLaws.{taken_number, taken_half, taken_byte, taken_data, taken_text, taken_second, taken_none}
+use Rattle.model.proofs.ByteLaws.{length_part}
+use Rattle.script.specs.Fields.{text_most, text_size, text_bytes, sized, put_text, field_room}
+use Rattle.script.proofs.FormLaws.{part_pasted}
+use Rattle.script.proofs.FitLaws.{text_sized}
 use Rattle.script.proofs.take_field.Goals as goal
 
-pub returns-in-78 : goal.returns-in-78
-returns-in-78 c = let a = c.args in let all = taken_number (view a.line.now) a.start (a.end - a.start) (length a.buffer.now) (view a.room.now) (view a.buffer.now) a.form _ c.in-78.is c.number_value.ensures in record { value = all.0; room_after = all.1.0; buffer_after = all.1.1 }
+pub slice_bounds-take_text-end-in-84 : goal.slice_bounds-take_text-end-in-84
+slice_bounds-take_text-end-in-84 c = sym (length-take-le 128 c.args.room.now (omega arith))
 
-pub returns-in-72 : goal.returns-in-72
-returns-in-72 c = let a = c.args in let all = taken_half (view a.line.now) a.start (a.end - a.start) (length a.buffer.now) (view a.room.now) (view a.buffer.now) a.form _ c.in-72.is c.half_value.ensures in record { value = all.0; room_after = all.1.0; buffer_after = all.1.1 }
+pub take_text-requires-clause-room_size : goal.take_text-requires-clause-room_size
+take_text-requires-clause-room_size c = length-take-le 128 c.args.room.now (omega arith)
 
-pub returns-in-66 : goal.returns-in-66
-returns-in-66 c = let a = c.args in let all = taken_byte (view a.line.now) a.start (a.end - a.start) (length a.buffer.now) (view a.room.now) (view a.buffer.now) a.form _ c.in-66.is c.byte_value.ensures in record { value = all.0; room_after = all.1.0; buffer_after = all.1.1 }
-
-pub returns-in-68 : goal.returns-in-68
-returns-in-68 c = let a = c.args in let r = c.take_data in let all = taken_data (view a.line.now) a.start (a.end - a.start) (length a.buffer.now) (view a.room.now) (view a.buffer.now) a.form _ _ c.in-68.is r.ensures.value r.ensures.buffer_after in record { value = all.0; room_after = all.1.0; buffer_after = all.1.1 }
-
-pub returns-in-84 : goal.returns-in-84
-returns-in-84 c = let a = c.args in let r = c.take_text in let all = taken_text (view a.line.now) a.start (a.end - a.start) (length a.buffer.now) (view a.room.now) (view a.buffer.now) a.form _ _ c.in-84.is r.ensures.value r.ensures.room_after in record { value = all.0; room_after = all.1.0; buffer_after = all.1.1 }
-
-pub returns-in-83 : goal.returns-in-83
-returns-in-83 c = let a = c.args in let r = c.take_text-in-83 in let all = taken_second (view a.line.now) a.start (a.end - a.start) (length a.buffer.now) (view a.room.now) (view a.buffer.now) a.form _ _ c.in-83.is r.ensures.value r.ensures.room_after in record { value = all.0; room_after = all.1.0; buffer_after = all.1.1 }
-
-pub returns-in_default : goal.returns-in_default
-returns-in_default c =
+pub returns-in-84-clause-room_after : goal.returns-in-84-clause-room_after
+unfolding field_room
+returns-in-84-clause-room_after c =
     let a = c.args in
-    let r = c.in_default.in_default-own.rest in let all = taken_none (view a.line.now) a.start (a.end - a.start) (length a.buffer.now) (view a.room.now) (view a.buffer.now) a.form r.0.0.0.0.0.1 r.0.0.0.0.1 r.0.0.0.1 r.0.0.1 r.0.1 r.1 in record { value = all.0; room_after = all.1.0; buffer_after = all.1.1 }
+    let r = c.take_text in
+    let len : length r.new.room ≡ 128 = r.auto.room ∙ length-take-le 128 a.room.now (omega arith) in
+    let text : view (r.new.room ++ drop 128 a.room.now) ≡ put_text a.field.now (view a.room.now) 0 =
+    part_pasted a.room.now r.new.room 0 128 _ (text_bytes a.field.now) (omega arith) len (text_sized a.field.now) r.ensures.room_after in
+    rw c.in-84.is text
+
+pub returns-in-83-clause-room_after : goal.returns-in-83-clause-room_after
+unfolding field_room
+returns-in-83-clause-room_after c =
+    let a = c.args in
+    let r = c.take_text-in-83 in
+    let k = length a.room.now - 128 in
+    let len : length r.new.room ≡ k = r.auto.room ∙ length_part a.room.now 128 k (omega arith) in
+    let most : sized (text_size a.field.now) ≤ k = omega (arith, text_sized a.field.now) in
+    let text : view (put_mid 128 k a.room.now r.new.room) ≡ put_text a.field.now (view a.room.now) text_most =
+    part_pasted a.room.now r.new.room 128 k _ (text_bytes a.field.now) (omega arith) len most r.ensures.room_after in
+    rw c.in-83.is text

@@ -1,99 +1,75 @@
 -- `sound::sound_directory` and `sound::sound_entry`, which call each other, meet their contracts. An entry's measure is twice its levels, a directory's
 -- one more. Both loops keep what is still to be claimed: the entries ahead.
-use Prim.Native.Nat.{◌<◌}
-use mathlib.Core.Path.{refl, sym, ap, ◌∙◌}
-use Rattle.model.specs.Bytes.{view}
-use Rattle.model.specs.Directory.{chain}
-use Rattle.claims.specs.Claims.{outcome}
+use Prim.Native.Nat.{ℕ, ◌+◌, ◌-◌}
+use mathlib.Core.List.{List}
+use mathlib.Core.Path.{◌≡◌, sym, ap, ◌∙◌}
+use Rattle.model.specs.Bytes.{view, gather}
+use Rattle.claims.specs.Claims.{claim, outcome}
 use Rattle.marks.specs.Marks.{marks}
-use Rattle.checks.specs.Inside.{Inside}
-use Rattle.checks.proofs.Laws.{inside_chain}
-use Rattle.sound.specs.Work.{right_of}
+use Rattle.checks.proofs.Laws.{coming, coming_next}
+use Rattle.sound.specs.Work.{entry_work, right_of}
 use Rattle.sound.specs.declared.Own.{Own}
-use Rattle.sound.proofs.WorkLaws.{entry_wrong, entry_whole, entry_inner, inner_work, opened, nothing_below, entries_start, entries_step, entries_wrong, entries_done, entries_next, list_wrong, list_right}
+use Rattle.sound.proofs.WorkLaws.{entry_wrong, entry_whole, entry_inner, inner_work, opened, nothing_below, still_some, entries_start, entries_step, entries_wrong, entries_done, entries_next, list_wrong, list_right}
 use native.Mathlib.Omega.{arith}
 use Rattle.sound.proofs.+sound_directory_sound_entry.Goals as goal
 
-pub sound_directory-overflow_mul-place : goal.sound_directory-overflow_mul-place
-sound_directory-overflow_mul-place t c =
-    let a = c.args in
-    let i = inside_chain (view a.img.now) a.n a.key a.used (omega arith) c.requires.inside in
-    omega arith
-
-pub sound_directory-overflow_add-place : goal.sound_directory-overflow_add-place
-sound_directory-overflow_add-place t c =
-    let a = c.args in
-    let i = inside_chain (view a.img.now) a.n a.key a.used (omega arith) c.requires.inside in
-    omega arith
-
-pub sound_directory-loop-place-init : goal.sound_directory-loop-place-init
-sound_directory-loop-place-init t c =
+pub sound_directory-loop-done-init : goal.sound_directory-loop-done-init
+sound_directory-loop-done-init t c =
     let a = c.args in
     let v = view a.img.now in
-    let h : 0 < a.used = omega arith in
-    let i = inside_chain v a.n a.key a.used h c.requires.inside in
-    ((omega arith, omega arith, omega arith, omega arith), i.0, omega arith, i.1, entries_start a.n v a.levels a.key a.used (marks a.seen.now) h)
-
-pub sound_directory-loop-place-2-init : goal.sound_directory-loop-place-2-init
-sound_directory-loop-place-2-init t c = ((omega arith, omega arith, omega arith, omega arith), omega arith, refl)
+    let z : a.used - 0 ≡ a.used = omega arith in
+    (omega arith, coming v a.n a.key a.used _ z c.requires.inside, (λ h. omega arith), rw z (entries_start a.n v a.levels a.key (marks a.seen.now) a.used (omega arith)))
 
 pub sound_directory-returns-then-not-sound_entry : goal.sound_directory-returns-then-not-sound_entry
 sound_directory-returns-then-not-sound_entry t c =
     let a = c.args in
     let v = view a.img.now in
-    let l = c.loop-place in
-    let m = c.loop-place-2 in
+    let l = c.loop-done in
+    let m = c.loop-place in
     let e = c.sound_entry in
     list_wrong a.n v a.levels a.key a.used (marks a.seen.now) (marks e.new.seen)
-    (entries_wrong a.n v a.levels a.key m.place l.block l.after (marks m.seen) (marks e.new.seen) e.result
-    c.loop-place-2-test.true e.ensures c.if-not-sound_entry.true
-    ∙ m.invariant.2 ∙ l.invariant.4)
-
-pub sound_directory-loop-place-2-preserved : goal.sound_directory-loop-place-2-preserved
-sound_directory-loop-place-2-preserved t c =
-    let a = c.args in
-    let l = c.loop-place in
-    let m = c.loop-place-2 in
-    let e = c.sound_entry in (
-      (omega arith, omega arith, omega arith, omega arith),
-      omega arith,
-      entries_step a.n (view a.img.now) a.levels a.key m.place l.block l.after (marks m.seen) (marks e.new.seen) e.result
-          c.loop-place-2-test.true e.ensures c.if-not-sound_entry.false
-          ∙ m.invariant.2,
-    )
-
-pub sound_directory-unlike-requires : goal.sound_directory-unlike-requires
-sound_directory-unlike-requires t c =
-    let p = c.requires in record { readable = p.ready.0.1; inside = p.inside }
-
-pub sound_directory-returns-then-after-eq0 : goal.sound_directory-returns-then-after-eq0
-sound_directory-returns-then-after-eq0 t c =
-    let a = c.args in
-    let v = view a.img.now in
-    let l = c.loop-place in
-    let m = c.loop-place-2 in
-    let u = c.unlike in
-    list_right a.n v a.levels a.key a.used (marks a.seen.now) (marks m.seen) u.result u.ensures
-    (entries_done a.n v a.levels a.key m.place l.block l.after (marks m.seen) c.loop-place-2-test.false c.if-after-eq0.true
-    ∙ m.invariant.2 ∙ l.invariant.4)
+    (entries_wrong a.n v a.levels a.key m.place l.block (a.used - (l._done + 1)) (marks m.seen) (marks e.new.seen) e.result
+    c.loop-place-test.true e.ensures c.if-not-sound_entry.true
+    ∙ m.invariant.1
+    ∙ ap (λ (ss : List ℕ). claim a.n (gather (entry_work v a.levels a.key) ss) (marks l.seen)) (sym (still_some v l.first l.block (a.used - l._done) (a.used - (l._done + 1)) (omega arith)))
+    ∙ l.invariant.3)
 
 pub sound_directory-loop-place-preserved : goal.sound_directory-loop-place-preserved
 sound_directory-loop-place-preserved t c =
     let a = c.args in
-    let l = c.loop-place in
-    let m = c.loop-place-2 in
-    let g = c.get_word-block in
-    let v = view a.img.now in
-    let more : 0 < l.after = omega (arith, c.if-after-eq0.false) in
-    let inside : Inside a.n (chain v g.result l.after) = rw g.ensures.value l.invariant.3 in
-    let i = inside_chain v a.n g.result l.after more inside in (
-      (omega arith, omega arith, omega arith, omega arith),
-      i.0,
+    let l = c.loop-done in
+    let m = c.loop-place in
+    let e = c.sound_entry in (
       omega arith,
-      i.1,
-      entries_next a.n v a.levels a.key m.place l.block l.after (marks m.seen) g.result c.loop-place-2-test.false more g.ensures.value
-          ∙ m.invariant.2 ∙ l.invariant.4,
+      entries_step a.n (view a.img.now) a.levels a.key m.place l.block (a.used - (l._done + 1)) (marks m.seen) (marks e.new.seen) e.result
+          c.loop-place-test.true e.ensures c.if-not-sound_entry.false
+          ∙ m.invariant.1,
     )
+
+pub sound_directory-loop-done-preserved : goal.sound_directory-loop-done-preserved
+sound_directory-loop-done-preserved t c =
+    let a = c.args in
+    let l = c.loop-done in
+    let m = c.loop-place in
+    let g = c.get_word-block in
+    let v = view a.img.now in (
+      omega arith,
+      coming_next v a.n l.block (a.used - l._done) _ _ g.ensures.value (omega arith) (omega arith) l.invariant.1.inside,
+      (λ h. omega arith),
+      entries_next a.n v a.levels a.key m.place l.block (a.used - (l._done + 1)) (marks m.seen) g.result c.loop-place-test.false g.ensures.value
+          ∙ m.invariant.1
+          ∙ ap (λ (ss : List ℕ). claim a.n (gather (entry_work v a.levels a.key) ss) (marks l.seen)) (sym (still_some v l.first l.block (a.used - l._done) (a.used - (l._done + 1)) (omega arith)))
+          ∙ l.invariant.3,
+    )
+
+pub sound_directory-returns : goal.sound_directory-returns
+sound_directory-returns t c =
+    let a = c.args in
+    let v = view a.img.now in
+    let l = c.loop-done in
+    let u = c.unlike in
+    list_right a.n v a.levels a.key a.used (marks a.seen.now) (marks l.seen) u.result u.ensures
+    (entries_done a.n v a.levels a.key (marks l.seen) l.first l.block (a.used - l._done) (omega arith) ∙ l.invariant.3)
 
 pub sound_entry-overflow_sub-levels : goal.sound_entry-overflow_sub-levels
 sound_entry-overflow_sub-levels t c =

@@ -1,16 +1,17 @@
--- `sound::directory_right` meets its contract. Each test that fails ends the conjunction.
+-- `sound::directory_right` meets its contract. One test after the other, as the definition has them.
+use mathlib.Core.Logic.{inl, inr}
 use borrow.Author.Tests.{eq-eqb, ne_eqb}
 use Rattle.model.specs.Bytes.{◌and◌}
 use Rattle.sound.proofs.directory_right.Goals as goal
 
-pub returns-then-entry-ne-DIRECTORY_TYPE : goal.returns-then-entry-ne-DIRECTORY_TYPE
+pub returns-then-entry-ne0 : goal.returns-then-entry-ne0
 unfolding ◌and◌
-returns-then-entry-ne-DIRECTORY_TYPE c = rw (ne_eqb _ _ c.if-entry-ne-DIRECTORY_TYPE.true)
+returns-then-entry-ne0 c = let h = c.if-entry-ne0.true in rw (eq-eqb _ _ h.0, ne_eqb _ _ h.1)
 
-pub returns-then-entry-eq0 : goal.returns-then-entry-eq0
+pub returns-else-entry-ne0 : goal.returns-else-entry-ne0
 unfolding ◌and◌
-returns-then-entry-eq0 c = rw (eq-eqb _ _ c.if-entry-ne-DIRECTORY_TYPE.false, eq-eqb _ _ c.if-entry-eq0.true)
-
-pub returns : goal.returns
-unfolding ◌and◌
-returns c = rw (eq-eqb _ _ c.if-entry-ne-DIRECTORY_TYPE.false, ne_eqb _ _ c.if-entry-eq0.false)
+returns-else-entry-ne0 c =
+    elim c.if-entry-ne0.either [
+      | inl h ↦ rw (eq-eqb _ _ h.0, eq-eqb _ _ h.1) (cc)
+      | inr h ↦ rw (ne_eqb _ _ h) (cc)
+    ]

@@ -7,11 +7,10 @@ use Rattle.sound.proofs.entry_right.Goals as goal
 pub name_right-requires : goal.name_right-requires
 name_right-requires c = let s = slot_in c.args.n c.args.place (omega arith) in omega arith
 
-pub returns-then-not-name_right : goal.returns-then-not-name_right
+pub returns-then-name_right : goal.returns-then-name_right
 unfolding ◌and◌
-returns-then-not-name_right c = rw (← c.name_right.ensures, c.if-not-name_right.true)
+returns-then-name_right c = rw (← c.name_right.ensures, c.if-name_right.true, ← c.home_of.ensures)
 
-pub returns : goal.returns
+pub returns-else-name_right : goal.returns-else-name_right
 unfolding ◌and◌
-returns c =
-    rw (← c.name_right.ensures, c.if-not-name_right.false, ← c.home_of.ensures)
+returns-else-name_right c = rw (← c.name_right.ensures, c.if-name_right.false)

@@ -6,16 +6,16 @@ use Rattle.claims.proofs.Agreement.{decided}
 use Rattle.marks.proofs.Laws.{blank}
 use Rattle.sound.proofs.WorkLaws.{size_right, volume_header_law}
 use Rattle.sound.proofs.is_sound.Goals as goal
+use Rattle.sound.proofs.is_sound.Goals.{then-not-is_prodos-via-then-not-is_prodos, then-not-is_prodos-via-else-not-is_prodos+then-get_word-ne-MAP_BLOCK}
 
 pub returns-then-not-is_prodos : goal.returns-then-not-is_prodos
 returns-then-not-is_prodos c =
     let a = c.args in
-    sym (not_prodos_law a.n (view a.img.now) (sym c.is_prodos.ensures ∙ c.if-not-is_prodos.true))
-
-pub returns-then-get_word-ne-MAP_BLOCK : goal.returns-then-get_word-ne-MAP_BLOCK
-returns-then-get_word-ne-MAP_BLOCK c =
-    let a = c.args in
-    sym (not_placed a.n (view a.img.now) (λ e. c.if-get_word-ne-MAP_BLOCK.true (c.get_word.ensures.value ∙ e)))
+    let v = view a.img.now in
+    elim c.then-not-is_prodos.branch [
+      | then-not-is_prodos-via-then-not-is_prodos w ↦ sym (not_prodos_law a.n v (sym c.is_prodos.ensures ∙ w.if-not-is_prodos.true))
+      | then-not-is_prodos-via-else-not-is_prodos+then-get_word-ne-MAP_BLOCK w ↦ sym (not_placed a.n v (λ e. w.if-get_word-ne-MAP_BLOCK.true (w.get_word.ensures.value ∙ e)))
+    ]
 
 pub walk-requires : goal.walk-requires
 walk-requires c =

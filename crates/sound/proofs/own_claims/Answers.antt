@@ -9,11 +9,6 @@ use Rattle.sound.specs.Work.{standing}
 use Rattle.sound.proofs.WorkLaws.{idle, no_kind}
 use Rattle.sound.proofs.own_claims.Goals as goal
 
-pub own_active-requires : goal.own_active-requires
-own_active-requires c =
-    let p = c.requires in
-    (p.0, p.1, sym c.stands_at.ensures ∙ c.in-Active.is)
-
 pub returns-in-Inactive : goal.returns-in-Inactive
 returns-in-Inactive c =
     let a = c.args in

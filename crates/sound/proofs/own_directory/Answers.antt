@@ -10,24 +10,24 @@ use Rattle.marks.specs.Marks.{marks}
 use Rattle.directory.specs.Search.{listed}
 use Rattle.sound.proofs.WorkLaws.{must_last, no_level, misnamed, misfit, chain_left, fields_some, directory_kids, used_read}
 use Rattle.sound.proofs.own_directory.Goals as goal
+use Rattle.sound.proofs.own_directory.Goals.{then-levels-eq0-via-then-levels-eq0, then-levels-eq0-via-else-levels-eq0+then-not-entry_right, then-levels-eq0-via-else-levels-eq0+else-not-entry_right+then-not-directory_right, then-levels-eq0-via-else-levels-eq0+else-not-entry_right+else-not-directory_right+then-not-open_directory}
 
+-- the first test that failed
 pub returns-then-levels-eq0 : goal.returns-then-levels-eq0
 returns-then-levels-eq0 c =
-    let a = c.args in record { seen_after = no_level a.n (view a.img.now) a.levels a.home a.place (marks a.seen.now) c.requires.ready.2 c.if-levels-eq0.true; leads = tt }
-
-pub returns-then-not-entry_right : goal.returns-then-not-entry_right
-returns-then-not-entry_right c =
-    let a = c.args in
-    let e = c.entry_right in record { seen_after = misnamed a.n (view a.img.now) a.levels a.home a.place (marks a.seen.now) c.requires.ready.2 c.if-levels-eq0.false e.result e.ensures c.if-not-entry_right.true; leads = tt }
-
-pub returns-then-not-directory_right : goal.returns-then-not-directory_right
-returns-then-not-directory_right c =
     let a = c.args in
     let p = c.requires in
-    let e = c.entry_right in
-    let f = c.directory_right in record {
-      seen_after = misfit a.n (view a.img.now) a.levels a.home a.place (marks a.seen.now) p.ready.2 c.if-levels-eq0.false e.result e.ensures
-          a.entry p.describes.1 c.if-not-entry_right.false f.result f.ensures c.if-not-directory_right.true;
+    let v = view a.img.now in
+    let s = marks a.seen.now in record {
+      seen_after = elim c.then-levels-eq0.branch [
+        | then-levels-eq0-via-then-levels-eq0 w ↦ no_level a.n v a.levels a.home a.place s p.ready.2 w.if-levels-eq0.true
+        | then-levels-eq0-via-else-levels-eq0+then-not-entry_right w ↦ misnamed a.n v a.levels a.home a.place s p.ready.2 w.if-levels-eq0.false _ w.entry_right.ensures w.if-not-entry_right.true
+        | then-levels-eq0-via-else-levels-eq0+else-not-entry_right+then-not-directory_right w ↦ misfit a.n v a.levels a.home a.place s p.ready.2 w.if-levels-eq0.false _ w.entry_right.ensures
+            a.entry p.describes.1 w.if-not-entry_right.false _ w.directory_right.ensures w.if-not-directory_right.true
+        | then-levels-eq0-via-else-levels-eq0+else-not-entry_right+else-not-directory_right+then-not-open_directory w ↦ sym (refused a.n _ _ s (marks w.open_directory.new.seen) w.open_directory.result w.if-not-open_directory.true w.open_directory.ensures.seen_after)
+            ∙ chain_left a.n v a.levels a.home a.place s p.ready.2 w.if-levels-eq0.false _ w.entry_right.ensures
+            a.entry p.describes.1 w.if-not-entry_right.false _ w.directory_right.ensures w.if-not-directory_right.false a.key p.describes.0
+      ];
       leads = tt;
     }
 
@@ -38,16 +38,6 @@ open_directory-requires c =
     let f = c.directory_right in
     let some = fields_some a.entry.ftype a.entry.used _ (sym f.ensures ∙ c.if-not-directory_right.false) in
     (p.ready.0, p.ready.1, some, omega arith, p.describes.0)
-
-pub returns-then-not-open_directory : goal.returns-then-not-open_directory
-returns-then-not-open_directory c =
-    let a = c.args in
-    let p = c.requires in
-    let e = c.entry_right in
-    let f = c.directory_right in
-    let k = c.open_directory in
-    let left = chain_left a.n (view a.img.now) a.levels a.home a.place (marks a.seen.now) p.ready.2 c.if-levels-eq0.false e.result e.ensures
-    a.entry p.describes.1 c.if-not-entry_right.false f.result f.ensures c.if-not-directory_right.false a.key p.describes.0 in record { seen_after = sym (refused a.n _ _ (marks a.seen.now) (marks k.new.seen) k.result c.if-not-open_directory.true k.ensures.seen_after) ∙ left; leads = tt }
 
 pub returns : goal.returns
 returns c =

@@ -39,6 +39,6 @@ returns c =
     let s = marks a.seen.now in
     let k = c.claim_tree in
     let answer = k.ensures.seen_after ∙ ap (λ (x : ℕ). claim a.n (tree_claims v x a.height 0 a.key) s) c.file_blocks.ensures in
-    let all = ap took_all c.in-Count.is in
+    let all = ap took_all c.in-Some.is in
     file_counted a.n v a.height e.ftype e.eof a.key e.used s (marks k.new.seen) (took_all k.result) answer c.if-entry-eq-DIRECTORY_TYPE.false
-    (c.if-height-height_of.false ∙ c.height_of.ensures) _ all (sym (ap took_count c.in-Count.is) ∙ k.ensures.result_value.0 all)
+    (c.if-height-height_of.false ∙ c.height_of.ensures) _ all (sym (ap took_count c.in-Some.is) ∙ k.ensures.result_value.0 all)

@@ -15,8 +15,8 @@ returns-then-place-eq-VOLUME c =
     let a = c.args in
     stands_volume (view a.img.now) a.place c.volume_entry.result c.if-place-eq-VOLUME.true c.volume_entry.ensures
 
-pub overflow_add-end : goal.overflow_add-end
-overflow_add-end c = let s = slot_in c.args.n c.args.place (omega arith) in omega arith
+pub overflow_add-start : goal.overflow_add-start
+overflow_add-start c = let s = slot_in c.args.n c.args.place (omega arith) in omega arith
 
 pub slice_bounds-decode-end : goal.slice_bounds-decode-end
 slice_bounds-decode-end c = let s = slot_in c.args.n c.args.place (omega arith) in omega arith

@@ -13,10 +13,10 @@ returns-then-place-eq-VOLUME c =
     let a = c.args in
     c.volume_right.ensures ∙ ap (λ (k : ℕ). eqb k 0) (sym (top_volume (view a.img.now) a.place c.if-place-eq-VOLUME.true))
 
-pub header_right-requires : goal.header_right-requires
-header_right-requires c = let s = slot_in c.args.n c.args.place (omega arith) in omega arith
+pub header_right-requires-clause-place_in_bounds : goal.header_right-requires-clause-place_in_bounds
+header_right-requires-clause-place_in_bounds c = let s = slot_in c.args.n c.args.place (omega arith) in omega arith
 
-pub returns : goal.returns
-returns c =
+pub returns-else-place-eq-VOLUME : goal.returns-else-place-eq-VOLUME
+returns-else-place-eq-VOLUME c =
     let a = c.args in
     c.header_right.ensures ∙ ap (λ (k : ℕ). eqb k 0) (sym (top_header (view a.img.now) a.place a.key c.if-place-eq-VOLUME.false c.requires.4))

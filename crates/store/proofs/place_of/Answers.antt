@@ -1,29 +1,27 @@
--- `store::place_of` meets its contract: the place is that from each byte passed on.
-use mathlib.Core.Path.{◌≡◌, refl, sym, ◌∙◌}
-use Prim.Native.Nat.{suc, ◌+◌, ◌-◌}
-use native.Mathlib.Omega.{arith}
+-- `store::place_of` meets its contract: what `position` finds in the rest of the bytes.
+use mathlib.Core.Path.{◌≡◌, ◌∙◌}
+use Prim.Native.Nat.{◌+◌, ◌-◌}
 use lib.ListN.{length}
-use Rattle.model.specs.Bytes.{view}
-use Rattle.model.proofs.ByteLaws.{place_here, place_more, place_none}
+use native.Mathlib.Omega.{arith}
+use borrow.Author.Rules.{rules}
+use borrow.Author.Tests.{tests}
+use Rattle.std.proofs.lemmas.Iterator.{YieldsList-from_slice, IsFirst-from_position}
+use Rattle.store.proofs.Runs.{part_first, part_none}
 use Rattle.store.proofs.place_of.Goals as goal
 
-pub loop-at-init : goal.loop-at-init
-loop-at-init c = (omega arith, omega arith, refl)
-
-pub returns-then-s-at : goal.returns-then-s-at
-returns-then-s-at c =
-    let l = c.loop-at in
-    let a = c.args in record { value = sym (place_here (view a.s.now) a.byte l.at _ c.if-s-at.true) ∙ l.invariant.2; lower_bound = (omega arith, omega arith) }
-
-pub loop-at-preserved : goal.loop-at-preserved
-loop-at-preserved c =
-    let l = c.loop-at in
+pub returns-in-Some-clause-value : goal.returns-in-Some-clause-value
+returns-in-Some-clause-value c =
     let a = c.args in
-    let e : length a.s.now - l.at ≡ suc (length a.s.now - (l.at + 1)) = omega arith in
-    (omega arith, omega arith, sym (place_more (view a.s.now) a.byte l.at _ _ e c.if-s-at.false) ∙ l.invariant.2)
+    let h =
+    IsFirst-from_position _ _ _ (λ x. x ≡ a.byte) (λ x. x ≡ a.byte → ⊥) c.in-Some.ensures.ran (YieldsList-from_slice _ c.iter.ensures.rest)
+    (λ x q k. search (rules, tests)) (λ x q k. search (rules, tests)) in
+    part_first a.s.now a.byte a.start (length a.s.now - a.start) c.in-Some.i (omega arith) h
 
-pub returns : goal.returns
-returns c =
-    let l = c.loop-at in
+pub returns-in-None-clause-value : goal.returns-in-None-clause-value
+returns-in-None-clause-value c =
     let a = c.args in
-    let e : length a.s.now - l.at ≡ 0 = omega arith in record { value = sym (rw e (place_none (view a.s.now) a.byte l.at)) ∙ l.invariant.2; lower_bound = (omega arith, omega arith) }
+    let h =
+    IsFirst-from_position _ _ _ (λ x. x ≡ a.byte) (λ x. x ≡ a.byte → ⊥) c.in-None.ensures.ran (YieldsList-from_slice _ c.iter.ensures.rest)
+    (λ x q k. search (rules, tests)) (λ x q k. search (rules, tests)) in
+    let e : length a.s.now ≡ a.start + (length a.s.now - a.start) = omega arith in
+    e ∙ part_none a.s.now a.byte a.start (length a.s.now - a.start) (omega arith) h

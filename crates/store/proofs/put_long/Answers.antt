@@ -1,17 +1,13 @@
--- `store::put_long` meets its contract. The word, and one store more.
+-- `store::put_long` meets its contract: the low three digits of the number.
 use mathlib.Core.Path.{ap, ◌∙◌}
-use Prim.Native.Nat.{◌+◌, ◌/◌, ◌%◌, ◌<◌}
+use lib.ListN.{take}
 use native.Mathlib.Omega.{arith}
-use lib.ListN.{length}
-use Rattle.model.specs.Bytes.{view, put}
-use Rattle.model.proofs.ByteLaws.{view_set, put_long_law}
+use Rattle.model.specs.Bytes.{put_long}
+use Rattle.store.proofs.Runs.{digits_stored}
 use Rattle.store.proofs.put_long.Goals as goal
 
 pub returns : goal.returns
+unfolding put_long
 returns c =
     let a = c.args in
-    let w = c.put_word in
-    let h : a.at + 2 < length w.new.img = omega arith in
-    view_set w.new.img (a.at + 2) (a.v / 65536 % 256) h
-    ∙ ap (λ f. put f (a.at + 2) (a.v / 65536 % 256)) w.ensures
-    ∙ put_long_law (view a.img.now) a.at a.v
+    digits_stored a.img.now _ a.at 3 a.v (omega arith) (omega arith) (c.copy_from_slice.ensures.after ∙ ap (take 3) c.to_le_bytes.ensures)

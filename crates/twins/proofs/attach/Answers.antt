@@ -1,32 +1,28 @@
--- `twins::attach` meets its contract: the stores, on one side and on the other.
-use mathlib.Core.Path.{◌≡◌, ap, ◌∙◌}
-use mathlib.Core.List.{List}
-use Prim.Native.Nat.{ℕ, ◌<◌}
-use lib.ListN.{length, set, length-set}
+-- `twins::attach` meets its contract: the new node is stored, and then a child on one side or on the other.
+use mathlib.Core.Path.{refl, ap, ◌∙◌}
 use native.Mathlib.Omega.{arith}
-use borrow.Author.Rules.{rules}
-use Rattle.model.specs.Bytes.{Bytes, view, put}
-use Rattle.model.proofs.ByteLaws.{view_set}
-use Rattle.twins.specs.Twins.{attached}
+use lib.ListN.{set, length-set}
+use Rattle.model.specs.Bytes.{Bytes, put}
+use Rattle.twins.specs.Twins.{leaf, attached}
+use Rattle.twins.proofs.NodeLaws.{lefts_set, rights_set, lefts_kept, rights_kept}
 use Rattle.twins.proofs.attach.Goals as goal
 
-two : (l : List ℕ) (i v j w : ℕ) → i < length l → j < length l → view (set (set l i v) j w) ≡ put (put (view l) i v) j w
-two l i v j w h m = view_set (set l i v) j w (simp length-set m) ∙ ap (λ (g : Bytes). put g j w) (view_set l i v h)
-
-pub bounds-right-node : goal.bounds-right-node
-bounds-right-node c = let s = c.args in let h : s.node < length s.right.now = omega arith in search rules
-
-pub bounds-left-node : goal.bounds-left-node
-bounds-left-node c = let s = c.args in let h : s.node < length s.left.now = omega arith in search rules
-
-pub returns-then-bit : goal.returns-then-bit
+pub returns-then-spot : goal.returns-then-spot
 unfolding attached
-returns-then-bit c =
+returns-then-spot c =
     let s = c.args in
-    rw (c.if-bit.true, attached) record { left_after = view_set s.left.now s.k 0 (omega arith); right_after = two s.right.now s.k 0 s.node s.k (omega arith) (omega arith) }
+    let ns = set s.nodes.now s.k leaf in
+    rw (c.if-spot.true, attached) record {
+      left_after = lefts_kept ns s.spot.node _ (simp length-set (omega arith)) refl ∙ lefts_set s.nodes.now s.k leaf (omega arith);
+      right_after = rights_set ns s.spot.node _ (simp length-set (omega arith)) ∙ ap (λ (g : Bytes). put g s.spot.node s.k) (rights_set s.nodes.now s.k leaf (omega arith));
+    }
 
-pub returns-else-bit : goal.returns-else-bit
+pub returns-else-spot : goal.returns-else-spot
 unfolding attached
-returns-else-bit c =
+returns-else-spot c =
     let s = c.args in
-    rw (c.if-bit.false, attached) record { left_after = two s.left.now s.k 0 s.node s.k (omega arith) (omega arith); right_after = view_set s.right.now s.k 0 (omega arith) }
+    let ns = set s.nodes.now s.k leaf in
+    rw (c.if-spot.false, attached) record {
+      left_after = lefts_set ns s.spot.node _ (simp length-set (omega arith)) ∙ ap (λ (g : Bytes). put g s.spot.node s.k) (lefts_set s.nodes.now s.k leaf (omega arith));
+      right_after = rights_kept ns s.spot.node _ (simp length-set (omega arith)) refl ∙ rights_set s.nodes.now s.k leaf (omega arith);
+    }

@@ -1,13 +1,12 @@
 -- `twins::descend` meets its contract. Each turn stands at the node to which so many bits lead, and no node on the way has the name.
--- The measure is what is left of the nodes.
 use mathlib.Core.Path.{◌≡◌}
 use mathlib.Core.List.{List}
 use mathlib.Core.Bool.{false}
-use Prim.Native.Nat.{ℕ, ◌-◌, ◌<◌, ◌≤◌}
+use Prim.Native.Nat.{ℕ, ◌<◌, ◌≤◌}
 use lib.ListN.{get_or}
 use Rattle.model.specs.Bytes.{Bytes, view}
 use Rattle.model.specs.Names.{alike}
-use Rattle.twins.specs.Twins.{key_of, walk, Alive}
+use Rattle.twins.specs.Twins.{key_of, lefts, rights, walk, Alive}
 use Rattle.twins.proofs.descend.Given as goal
 
 -- i bits of name k lead to a node, and none before it on the way has the name
@@ -18,8 +17,5 @@ pub record On (f : Bytes) (xs : List ℕ) (k : ℕ) (l r : Bytes) (node i : ℕ)
   pub there : walk l r (key_of f xs k) i ≡ node
   pub unlike : (e : ℕ) → e < i → alike f (get_or xs (walk l r (key_of f xs k) e) 0) (get_or xs k 0) ≡ false
 
-abbrev pub invariant-loop-node : goal.invariant-loop-node
-invariant-loop-node l = On (view l.img) l.places l.k (view l.left) (view l.right) l.node l.i
-
-abbrev pub decreases-loop-node : goal.decreases-loop-node
-decreases-loop-node l = l.k - l.node
+abbrev pub invariant-loop-i : goal.invariant-loop-i
+invariant-loop-i l = On (view l.img) l.places l.k (lefts l.nodes) (rights l.nodes) l.node l.i

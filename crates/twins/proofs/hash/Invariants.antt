@@ -1,12 +1,9 @@
 -- `twins::hash` meets its contract. The first k digits are mixed after k turns.
 use mathlib.Core.Path.{◌≡◌}
-use Prim.Native.Nat.{◌-◌, ◌≤◌, ◌<◌}
+use Prim.Native.Nat.{◌<◌}
 use Rattle.model.specs.Bytes.{view, from}
 use Rattle.twins.specs.Twins.{mixed}
 use Rattle.twins.proofs.hash.Given as goal
 
 abbrev pub invariant-loop-k : goal.invariant-loop-k
-invariant-loop-k l = (l.k ≤ 16) × (l.mixed < 4294967296) × (l.mixed ≡ mixed (from (view l.img) l.a) l.k)
-
-abbrev pub decreases-loop-k : goal.decreases-loop-k
-decreases-loop-k l = 16 - l.k
+invariant-loop-k l = (l.mixed < 4294967296) × (l.mixed ≡ mixed (from (view l.img) l.a) l.k)
