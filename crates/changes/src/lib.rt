@@ -13,7 +13,7 @@ ghost use Rattle.lines.specs.Left.{Leaves};
 ghost use Rattle.changes.specs.Changes.{Asks, formatted, created, destroyed, renamed, informed, ended, called, written, filled, laid_in, changed};
 
 use ink::Ink;
-use lines::{Call, Change};
+use lines::{BadLine, Call, Change};
 use model::{Refusal, Stamp};
 use script::{FIELDS, TEXT};
 
@@ -95,6 +95,7 @@ fn write(
     write::write(img, &room[0..values[0]], values[1], bytes, stamp)
 }
 
+// A match: each call takes other fields.
 #[tactic(auto, unfolding(crate::specs::Changes::called))]
 fn call(call: Call, img: &mut [u8], values: &[usize; FIELDS], room: &[u8]) -> Result<(), Refusal>
     requires { Asks call values.now room.now }
@@ -117,19 +118,19 @@ fn fill(
     room: &[u8],
     buffer: &mut [u8],
     page: &mut [u8],
-    ink: Ink,
-) -> Option<Ink>
+    ink: &mut Ink,
+) -> Result<(), BadLine>
     requires { (Fitting (command.Change change.Fill) (length buffer.old) values.now) × (length room.now ≡ 256) }
-    ensures { Leaves (filled (length img.old) (view img.old) (length buffer.old) (held values.now room.now buffer.old)) (sheet ink page.old) result img.new buffer.new page.new }
+    ensures { Leaves (filled (length img.old) (view img.old) (length buffer.old) (held values.now room.now buffer.old)) (sheet ink.old page.old) result ink.new img.new buffer.new page.new }
 {
     let count = values[4];
     if buffer.len() < count {
-        return None;
+        return Err(BadLine);
     }
     let byte = values[5] as u8;
     store::fill_run(buffer, 0, count, byte);
-    let transfer = write(img, values, room, buffer);
-    Some(replies::say_transfer(page, ink, transfer))
+    replies::say_transfer(page, ink, write(img, values, room, buffer));
+    Ok(())
 }
 
 // Bytes of the buffer, at an address of the image; a line that leaves the image is bad.
@@ -138,35 +139,43 @@ fn set(
     values: &[usize; FIELDS],
     buffer: &[u8],
     page: &mut [u8],
-    ink: Ink,
-) -> Option<Ink>
+    ink: &mut Ink,
+) -> Result<(), BadLine>
     requires { Fitting (command.Change change.Set) (length buffer.now) values.now }
-    ensures { Leaves (laid_in (length img.old) (view img.old) (held values.now [] buffer.now) (view buffer.now)) (sheet ink page.old) result img.new buffer.now page.new }
+    ensures { Leaves (laid_in (length img.old) (view img.old) (held values.now [] buffer.now) (view buffer.now)) (sheet ink.old page.old) result ink.new img.new buffer.now page.new }
 {
     let address = values[0];
     let count = values[1];
     if img.len() < address + count {
-        return None;
+        return Err(BadLine);
     }
     store::copy_run(img, address, buffer, 0, count);
-    Some(replies::say_answer(page, ink, Ok(())))
+    replies::say_answer(page, ink, Ok(()));
+    Ok(())
 }
 
 // Equal bytes there. It is no one function with `set`: a closure for the bytes that are put down would be longer than what both share.
-fn set_run(img: &mut [u8], values: &[usize; FIELDS], page: &mut [u8], ink: Ink) -> Option<Ink>
+fn set_run(
+    img: &mut [u8],
+    values: &[usize; FIELDS],
+    page: &mut [u8],
+    ink: &mut Ink,
+) -> Result<(), BadLine>
     requires { (view values.now 0 ≤ 4294967295) × (view values.now 1 ≤ 4294967295) × (view values.now 2 ≤ 255) }
-    ensures { (bs : List ℕ) → Leaves (laid_in (length img.old) (view img.old) (held values.now [] bs) (same (view values.now 2))) (sheet ink page.old) result img.new bs page.new }
+    ensures { (bs : List ℕ) → Leaves (laid_in (length img.old) (view img.old) (held values.now [] bs) (same (view values.now 2))) (sheet ink.old page.old) result ink.new img.new bs page.new }
 {
     let address = values[0];
     let count = values[1];
     if img.len() < address + count {
-        return None;
+        return Err(BadLine);
     }
     store::fill_run(img, address, count, values[2] as u8);
-    Some(replies::say_answer(page, ink, Ok(())))
+    replies::say_answer(page, ink, Ok(()));
+    Ok(())
 }
 
 // A command whose fields are good.
+// A match: each command takes other fields and lends other parts.
 #[tactic(auto, unfolding(crate::specs::Changes::changed, crate::specs::Changes::laid_in))]
 pub fn run(
     change: Change,
@@ -175,16 +184,17 @@ pub fn run(
     room: &[u8],
     buffer: &mut [u8],
     page: &mut [u8],
-    ink: Ink,
-) -> Option<Ink>
+    ink: &mut Ink,
+) -> Result<(), BadLine>
     requires { (Fitting (command.Change change) (length buffer.old) values.now) × (length room.now ≡ 256) }
-    ensures { Leaves (changed change (length img.old) (view img.old) (length buffer.old) (held values.now room.now buffer.old)) (sheet ink page.old) result img.new buffer.new page.new }
+    ensures { Leaves (changed change (length img.old) (view img.old) (length buffer.old) (held values.now room.now buffer.old)) (sheet ink.old page.old) result ink.new img.new buffer.new page.new }
 {
     match change {
-        Change::Call(asked) => Some(replies::say_answer(page, ink, call(asked, img, values, room))),
-        Change::Write => Some(replies::say_transfer(page, ink, write(img, values, room, buffer))),
-        Change::Fill => fill(img, values, room, buffer, page, ink),
-        Change::Set => set(img, values, buffer, page, ink),
-        Change::SetRun => set_run(img, values, page, ink),
+        Change::Call(asked) => replies::say_answer(page, ink, call(asked, img, values, room)),
+        Change::Write => replies::say_transfer(page, ink, write(img, values, room, buffer)),
+        Change::Fill => fill(img, values, room, buffer, page, ink)?,
+        Change::Set => set(img, values, buffer, page, ink)?,
+        Change::SetRun => set_run(img, values, page, ink)?,
     }
+    Ok(())
 }

@@ -245,6 +245,15 @@ pub unlike_none : (v : Bytes) (b left : ℕ) → left ≡ 0 → eqb (twins v (sl
 unfolding twins
 unlike_none v b left e = rw (no_slots v b left e)
 
+-- a directory of no block has no entry
+pub entries_none : (v : Bytes) (b left : ℕ) → left ≡ 0 → active v (drop 1 (slots (chain v b left))) ≡ 0
+unfolding sum
+entries_none v b left e = ap (λ l. active v (drop 1 l)) (no_slots v b left e)
+
+pub entries_unlike : (v : Bytes) (b left : ℕ) → left ≡ 0 → eqb (twins v (drop 1 (slots (chain v b left)))) 0 ≡ true
+unfolding twins
+entries_unlike v b left e = ap (λ l. eqb (twins v (drop 1 l)) 0) (no_slots v b left e)
+
 -- the slots from s on in block b and in the blocks after it
 module _ (v : Bytes) (s b after : ℕ) (l : s < b * 13 + 13) where
   pub unlike_skip : is_active (sort v s) ≡ false → eqb (twins v (ahead v s b after)) 0 ≡ eqb (twins v (ahead v (s + 1) b after)) 0

@@ -45,6 +45,7 @@ pub fn name_right(img: &[u8], place: usize) -> bool
 }
 
 // A header has this kind, 39 and 13.
+// The kind is a number: $E and $F are the kinds of headers, which no `Kind` has.
 fn header_fits(img: &[u8], key: usize, kind: u8) -> bool
     requires { key * 512 + 512 ≤ length img.now }
     ensures { result ≡ (eqb (header_kind (view img.now) key) kind and eqb (header_slot_size (view img.now) key) 39 and eqb (header_slots (view img.now) key) 13) }
@@ -93,6 +94,7 @@ fn points_at(img: &[u8], place: usize, key: usize) -> bool
 }
 
 // The header in block `key` is that of the subdirectory whose entry is at a place.
+#[tactic(auto, unfolding(model::specs::Directory::at))]
 pub fn header_right(img: &[u8], n: usize, place: usize, key: usize) -> bool
     requires img_len { (length img.now ≡ n * 512) × (n ≤ 65535) × (key < n) }
     requires place_in_bounds { at place + 39 ≤ length img.now }
@@ -103,46 +105,209 @@ pub fn header_right(img: &[u8], n: usize, place: usize, key: usize) -> bool
         && twins::alike_at(img, key * BLOCK + 4, address(place))
 }
 
-#[tactic(auto, using(crate::proofs::Laws::active_is))]
-fn is_active(img: &[u8], n: usize, place: usize) -> bool
-    requires { Readable n img.now × (place < n * 13) }
-    ensures { result ≡ is_active (sort (view img.now) place) }
-{
-    img[address(place)] / 16 != 0
+// The volume whose slots are read, an image of n blocks.
+// A type of its own beside that of `sound`, which knows more of the volume.
+#[derive(Clone, Copy)]
+struct Volume<'a> {
+    img: &'a [u8],
+    n: usize,
+    ghost readable: { Readable n img.now },
 }
 
-// The active slots from one place up to another.
-fn active_between(img: &[u8], n: usize, start: usize, end: usize) -> usize
-    requires { Readable n img.now × (start ≤ end) × (end ≤ n * 13) }
-    ensures { (result ≡ active (view img.now) (run start (end - start))) × (result ≤ end - start) }
-{
-    let mut count = 0;
-    for place in start..end {
-        if is_active(img, n, place) {
-            count += 1;
+impl Volume<'_> {
+    #[tactic(auto, using(crate::proofs::Laws::active_is), unfolding(model::specs::Directory::at))]
+    fn is_active(&self, place: usize) -> bool
+        requires { place < self.now.n * 13 }
+        ensures { result ≡ is_active (sort (view self.now.img.now) place) }
+    {
+        self.img[address(place)] / 16 != 0
+    }
+
+    // The active slots from one place up to another.
+    fn active_between(&self, start: usize, end: usize) -> usize
+        requires { (start ≤ end) × (end ≤ self.now.n * 13) }
+        ensures { (result ≡ active (view self.now.img.now) (run start (end - start))) × (result ≤ end - start) }
+    {
+        let mut count = 0;
+        for place in start..end {
+            if self.is_active(place) {
+                count += 1;
+            }
         }
+        count
     }
-    count
-}
 
-// The active slots of a chain of blocks.
-fn active_in_blocks(img: &[u8], n: usize, first: usize, blocks: usize) -> usize
-    requires readable { Readable n img.now × (blocks ≤ 65535) }
-    requires inside { Inside n (chain (view img.now) first blocks) }
-    ensures { (result ≡ active (view img.now) (slots (chain (view img.now) first blocks))) × (result ≤ blocks * 13) }
-{
-    let mut count = 0;
-    let mut block = first;
-    for _done in 0..blocks {
-        let start = block * SLOTS;
-        count += active_between(img, n, start, start + SLOTS);
-        block = next_of(img, block);
+    // The active slots of a chain of blocks.
+    fn active_in_blocks(&self, first: usize, blocks: usize) -> usize
+        requires few { blocks ≤ 65535 }
+        requires inside { Inside self.now.n (chain (view self.now.img.now) first blocks) }
+        ensures { let v = view self.now.img.now in (result ≡ active v (slots (chain v first blocks))) × (result ≤ blocks * 13) }
+    {
+        let mut count = 0;
+        let mut block = first;
+        for _done in 0..blocks {
+            let start = block * SLOTS;
+            count += self.active_between(start, start + SLOTS);
+            block = next_of(self.img, block);
+        }
+        count
     }
-    count
+
+    // No active slot from one place up to another has the name stored at `place`.
+    #[tactic(auto, using(crate::proofs::Laws::alone_off, crate::proofs::Laws::alone_next, crate::proofs::Laws::alone_not, crate::proofs::Laws::alone_end), unfolding(model::specs::Directory::at))]
+    fn alone_between(&self, place: usize, start: usize, end: usize) -> bool
+        requires { (place < self.now.n * 13) × (start ≤ end) × (end ≤ self.now.n * 13) }
+        ensures { result ≡ eqb (twins_of (view self.now.img.now) place (run start (end - start))) 0 }
+    {
+        let name = address(place);
+        for other in start..end {
+            if self.is_active(other) && twins::alike_at(self.img, name, address(other)) {
+                return false;
+            }
+        }
+        true
+    }
+
+    // No active slot of a chain of blocks has the name stored at `place`.
+    fn alone_in_blocks(&self, place: usize, first: usize, blocks: usize) -> bool
+        requires place { place < self.now.n * 13 }
+        requires inside { Inside self.now.n (chain (view self.now.img.now) first blocks) }
+        ensures { let v = view self.now.img.now in result ≡ eqb (twins_of v place (slots (chain v first blocks))) 0 }
+    {
+        let mut block = first;
+        for _done in 0..blocks {
+            let start = block * SLOTS;
+            if !self.alone_between(place, start, start + SLOTS) {
+                return false;
+            }
+            block = next_of(self.img, block);
+        }
+        true
+    }
+
+    // No active slot behind `place`, in its block and the blocks that follow, has its name.
+    fn alone_ahead(&self, place: usize, block: usize, after: usize) -> bool
+        requires place { (place < block * 13 + 13) × (block < self.now.n) }
+        requires inside { let v = view self.now.img.now in Inside self.now.n (chain v (next v block) after) }
+        ensures { let v = view self.now.img.now in result ≡ eqb (twins_of v place (ahead v (place + 1) block after)) 0 }
+    {
+        self.alone_between(place, place + 1, block * SLOTS + SLOTS)
+            && self.alone_in_blocks(place, next_of(self.img, block), after)
+    }
+
+    // Each active slot of a block, from `start` on, has a name that none behind it has: whether two of the blocks that follow are alike is open.
+    #[tactic(auto, using(crate::proofs::Laws::ahead_end, crate::proofs::Laws::unlike_skip, crate::proofs::Laws::unlike_more, crate::proofs::Laws::unlike_not))]
+    fn unlike_from(&self, start: usize, block: usize, after: usize) -> bool
+        requires start { (start ≤ block * 13 + 13) × (block < self.now.n) }
+        requires inside { let v = view self.now.img.now in Inside self.now.n (chain v (next v block) after) }
+        ensures { let v = view self.now.img.now in eqb (twins v (ahead v start block after)) 0 ≡ (result and eqb (twins v (slots (chain v (next v block) after))) 0) }
+    {
+        for place in start..block * SLOTS + SLOTS {
+            if self.is_active(place) && !self.alone_ahead(place, block, after) {
+                return false;
+            }
+        }
+        true
+    }
+
+    // No two active slots of a chain of blocks have one name.
+    fn unlike_in_blocks(&self, first: usize, blocks: usize) -> bool
+        requires inside { Inside self.now.n (chain (view self.now.img.now) first blocks) }
+        ensures { let v = view self.now.img.now in result ≡ eqb (twins v (slots (chain v first blocks))) 0 }
+    {
+        let mut block = first;
+        for after in (0..blocks).rev() {
+            if !self.unlike_from(block * SLOTS, block, after) {
+                return false;
+            }
+            block = next_of(self.img, block);
+        }
+        true
+    }
+
+    // No two active entries of a directory of `used` blocks have one name: each is compared with each.
+    #[tactic(auto, using(crate::proofs::Laws::first_inside, crate::proofs::Laws::entries_unlike))]
+    fn each_with_each(&self, key: usize, used: usize) -> bool
+        requires inside { Inside self.now.n (chain (view self.now.img.now) key used) }
+        ensures { let v = view self.now.img.now in result ≡ eqb (twins v (drop 1 (slots (chain v key used)))) 0 }
+    {
+        if used == 0 {
+            return true;
+        }
+        self.unlike_from(key * SLOTS + 1, key, used - 1)
+            && self.unlike_in_blocks(next_of(self.img, key), used - 1)
+    }
+
+    // Appends the addresses of the active slots from one place up to another to the first `at` of a list.
+    // Each address is stored, and counted where the slot is active: so the list has one place more than it needs.
+    // The list is a room of a fixed size, filled from `at` on: there is no heap.
+    #[tactic(auto, unfolding(model::specs::Directory::at))]
+    fn gather_between(&self, start: usize, end: usize, list: &mut [u32], at: usize) -> usize
+        requires slots { (start ≤ end) × (end ≤ self.now.n * 13) }
+        requires start_in_bounds { at + active (view self.now.img.now) (run start (end - start)) < length list.old }
+        ensures value { result ≡ at + active (view self.now.img.now) (run start (end - start)) }
+        ensures list_after { take result list.new ≡ take at list.old ++ actives (view self.now.img.now) (run start (end - start)) }
+    {
+        let mut count = at;
+        for place in start..end {
+            list[count] = address(place) as u32;
+            if self.is_active(place) {
+                count += 1;
+            }
+        }
+        count
+    }
+
+    // The same for the slots of a chain of blocks.
+    fn gather_in_blocks(&self, first: usize, blocks: usize, list: &mut [u32], at: usize) -> usize
+        requires inside { Inside self.now.n (chain (view self.now.img.now) first blocks) }
+        requires blocks_in_bounds { let v = view self.now.img.now in at + active v (slots (chain v first blocks)) < length list.old }
+        ensures value { let v = view self.now.img.now in result ≡ at + active v (slots (chain v first blocks)) }
+        ensures list_after { let v = view self.now.img.now in take result list.new ≡ take at list.old ++ actives v (slots (chain v first blocks)) }
+    {
+        let mut count = at;
+        let mut block = first;
+        for _done in 0..blocks {
+            let start = block * SLOTS;
+            count = self.gather_between(start, start + SLOTS, list, count);
+            block = next_of(self.img, block);
+        }
+        count
+    }
+
+    // The addresses of a directory's active entries, from the start of a list on.
+    #[tactic(auto, using(crate::proofs::Laws::first_inside))]
+    fn gather_entries(&self, key: usize, used: usize, list: &mut [u32]) -> usize
+        requires some { 0 < used }
+        requires inside { Inside self.now.n (chain (view self.now.img.now) key used) }
+        requires used_in_bounds { let v = view self.now.img.now in active v (drop 1 (slots (chain v key used))) < length list.old }
+        ensures value { let v = view self.now.img.now in result ≡ active v (drop 1 (slots (chain v key used))) }
+        ensures list_after { let v = view self.now.img.now in take result list.new ≡ actives v (drop 1 (slots (chain v key used))) }
+    {
+        let start = key * SLOTS;
+        let count = self.gather_between(start + 1, start + SLOTS, list, 0);
+        self.gather_in_blocks(next_of(self.img, key), used - 1, list, count)
+    }
+
+    // No two active entries of a directory of `used` blocks have one name: they are put into a tree. The last two are scratch.
+    #[tactic(auto, using(crate::proofs::Laws::entries_unlike))]
+    fn unlike_by_tree(&self, key: usize, used: usize, list: &mut [u32], nodes: &mut [Node]) -> bool
+        requires few { used ≤ 65535 }
+        requires inside { Inside self.now.n (chain (view self.now.img.now) key used) }
+        requires list_in_bounds { let v = view self.now.img.now in active v (drop 1 (slots (chain v key used))) < length list.old }
+        requires nodes_in_bounds { let v = view self.now.img.now in active v (drop 1 (slots (chain v key used))) < length nodes.old }
+        ensures { let v = view self.now.img.now in result ≡ eqb (twins v (drop 1 (slots (chain v key used)))) 0 }
+    {
+        if used == 0 {
+            return true;
+        }
+        let count = self.gather_entries(key, used, list);
+        twins::no_twins(self.img, &list[0..count], nodes)
+    }
 }
 
 // The active entries of a directory of `used` blocks: its header is none of them.
-#[tactic(auto, using(crate::proofs::Laws::first_inside))]
+#[tactic(auto, using(crate::proofs::Laws::first_inside, crate::proofs::Laws::entries_none))]
 pub fn count_active(img: &[u8], n: usize, key: usize, used: usize) -> usize
     requires readable { Readable n img.now × (used ≤ 65535) }
     requires inside { Inside n (chain (view img.now) key used) }
@@ -151,179 +316,10 @@ pub fn count_active(img: &[u8], n: usize, key: usize, used: usize) -> usize
     if used == 0 {
         return 0;
     }
+    let volume = Volume { img, n };
     let start = key * SLOTS;
-    let count = active_between(img, n, start + 1, start + SLOTS);
-    count + active_in_blocks(img, n, next_of(img, key), used - 1)
-}
-
-// No active slot from one place up to another has the name stored at `place`.
-#[tactic(auto, using(crate::proofs::Laws::alone_off, crate::proofs::Laws::alone_next, crate::proofs::Laws::alone_not, crate::proofs::Laws::alone_end))]
-fn alone_between(img: &[u8], n: usize, place: usize, start: usize, end: usize) -> bool
-    requires { Readable n img.now × (place < n * 13) × (start ≤ end) × (end ≤ n * 13) }
-    ensures { result ≡ eqb (twins_of (view img.now) place (run start (end - start))) 0 }
-{
-    let name = address(place);
-    for other in start..end {
-        if is_active(img, n, other) && twins::alike_at(img, name, address(other)) {
-            return false;
-        }
-    }
-    true
-}
-
-// No active slot of a chain of blocks has the name stored at `place`.
-fn alone_in_blocks(img: &[u8], n: usize, place: usize, first: usize, blocks: usize) -> bool
-    requires readable { Readable n img.now × (place < n * 13) }
-    requires inside { Inside n (chain (view img.now) first blocks) }
-    ensures { result ≡ eqb (twins_of (view img.now) place (slots (chain (view img.now) first blocks))) 0 }
-{
-    let mut block = first;
-    for _done in 0..blocks {
-        let start = block * SLOTS;
-        if !alone_between(img, n, place, start, start + SLOTS) {
-            return false;
-        }
-        block = next_of(img, block);
-    }
-    true
-}
-
-// No active slot behind `place`, in its block and the blocks that follow, has its name.
-fn alone_ahead(img: &[u8], n: usize, place: usize, block: usize, after: usize) -> bool
-    requires readable { Readable n img.now × (place < block * 13 + 13) × (block < n) }
-    requires inside { Inside n (chain (view img.now) (next (view img.now) block) after) }
-    ensures { result ≡ eqb (twins_of (view img.now) place (ahead (view img.now) (place + 1) block after)) 0 }
-{
-    alone_between(img, n, place, place + 1, block * SLOTS + SLOTS)
-        && alone_in_blocks(img, n, place, next_of(img, block), after)
-}
-
-// Each active slot of a block, from `start` on, has a name that none behind it has: whether two of the blocks that follow are alike is open.
-#[tactic(auto, using(crate::proofs::Laws::ahead_end, crate::proofs::Laws::unlike_skip, crate::proofs::Laws::unlike_more, crate::proofs::Laws::unlike_not))]
-fn unlike_from(img: &[u8], n: usize, start: usize, block: usize, after: usize) -> bool
-    requires readable { Readable n img.now × (start ≤ block * 13 + 13) × (block < n) }
-    requires inside { Inside n (chain (view img.now) (next (view img.now) block) after) }
-    ensures { eqb (twins (view img.now) (ahead (view img.now) start block after)) 0 ≡ (result and eqb (twins (view img.now) (slots (chain (view img.now) (next (view img.now) block) after))) 0) }
-{
-    for place in start..block * SLOTS + SLOTS {
-        if is_active(img, n, place) && !alone_ahead(img, n, place, block, after) {
-            return false;
-        }
-    }
-    true
-}
-
-// No two active slots of a chain of blocks have one name.
-fn unlike_in_blocks(img: &[u8], n: usize, first: usize, blocks: usize) -> bool
-    requires readable { Readable n img.now }
-    requires inside { Inside n (chain (view img.now) first blocks) }
-    ensures { result ≡ eqb (twins (view img.now) (slots (chain (view img.now) first blocks))) 0 }
-{
-    let mut block = first;
-    for after in (0..blocks).rev() {
-        if !unlike_from(img, n, block * SLOTS, block, after) {
-            return false;
-        }
-        block = next_of(img, block);
-    }
-    true
-}
-
-// No two active entries of a directory of `used` blocks have one name: each is compared with each.
-#[tactic(auto, using(crate::proofs::Laws::first_inside))]
-fn each_with_each(img: &[u8], n: usize, key: usize, used: usize) -> bool
-    requires readable { Readable n img.now }
-    requires inside { Inside n (chain (view img.now) key used) }
-    ensures { result ≡ eqb (twins (view img.now) (drop 1 (slots (chain (view img.now) key used)))) 0 }
-{
-    if used == 0 {
-        return true;
-    }
-    unlike_from(img, n, key * SLOTS + 1, key, used - 1)
-        && unlike_in_blocks(img, n, next_of(img, key), used - 1)
-}
-
-// Appends the addresses of the active slots from one place up to another to the first `at` of a list.
-// Each address is stored, and counted where the slot is active: so the list has one place more than it needs.
-fn gather_between(
-    img: &[u8],
-    n: usize,
-    start: usize,
-    end: usize,
-    list: &mut [u32],
-    at: usize,
-) -> usize
-    requires readable { Readable n img.now × (start ≤ end) × (end ≤ n * 13) }
-    requires start_in_bounds { at + active (view img.now) (run start (end - start)) < length list.old }
-    ensures value { result ≡ at + active (view img.now) (run start (end - start)) }
-    ensures list_after { take result list.new ≡ take at list.old ++ actives (view img.now) (run start (end - start)) }
-{
-    let mut count = at;
-    for place in start..end {
-        list[count] = address(place) as u32;
-        if is_active(img, n, place) {
-            count += 1;
-        }
-    }
-    count
-}
-
-// The same for the slots of a chain of blocks.
-fn gather_in_blocks(
-    img: &[u8],
-    n: usize,
-    first: usize,
-    blocks: usize,
-    list: &mut [u32],
-    at: usize,
-) -> usize
-    requires readable { Readable n img.now × Inside n (chain (view img.now) first blocks) }
-    requires blocks_in_bounds { at + active (view img.now) (slots (chain (view img.now) first blocks)) < length list.old }
-    ensures value { result ≡ at + active (view img.now) (slots (chain (view img.now) first blocks)) }
-    ensures list_after { take result list.new ≡ take at list.old ++ actives (view img.now) (slots (chain (view img.now) first blocks)) }
-{
-    let mut count = at;
-    let mut block = first;
-    for _done in 0..blocks {
-        let start = block * SLOTS;
-        count = gather_between(img, n, start, start + SLOTS, list, count);
-        block = next_of(img, block);
-    }
-    count
-}
-
-// The addresses of a directory's active entries, from the start of a list on.
-#[tactic(auto, using(crate::proofs::Laws::first_inside))]
-fn gather_entries(img: &[u8], n: usize, key: usize, used: usize, list: &mut [u32]) -> usize
-    requires readable { Readable n img.now × Inside n (chain (view img.now) key used) × (0 < used) }
-    requires used_in_bounds { active (view img.now) (drop 1 (slots (chain (view img.now) key used))) < length list.old }
-    ensures value { result ≡ active (view img.now) (drop 1 (slots (chain (view img.now) key used))) }
-    ensures list_after { take result list.new ≡ actives (view img.now) (drop 1 (slots (chain (view img.now) key used))) }
-{
-    let start = key * SLOTS;
-    let count = gather_between(img, n, start + 1, start + SLOTS, list, 0);
-    gather_in_blocks(img, n, next_of(img, key), used - 1, list, count)
-}
-
-// No two active entries of a directory of `used` blocks have one name: they are put into a tree. The last two are scratch.
-fn unlike_by_tree(
-    img: &[u8],
-    n: usize,
-    key: usize,
-    used: usize,
-    list: &mut [u32],
-    nodes: &mut [Node],
-) -> bool
-    requires readable { Readable n img.now × Inside n (chain (view img.now) key used) × (used ≤ 65535) }
-    requires list_in_bounds { active (view img.now) (drop 1 (slots (chain (view img.now) key used))) < length list.old }
-    requires nodes_in_bounds { active (view img.now) (drop 1 (slots (chain (view img.now) key used))) < length nodes.old }
-    ensures { result ≡ eqb (twins (view img.now) (drop 1 (slots (chain (view img.now) key used)))) 0 }
-{
-    if used == 0 {
-        return true;
-    }
-    let count = gather_entries(img, n, key, used, list);
-    twins::no_twins(img, &list[0..count], nodes)
+    let count = volume.active_between(start + 1, start + SLOTS);
+    count + volume.active_in_blocks(next_of(img, key), used - 1)
 }
 
 // No two active entries of a directory of `used` blocks have one name. In a few blocks each is compared with each, in more they are put into a tree.
@@ -333,15 +329,16 @@ pub fn unlike(img: &[u8], n: usize, key: usize, used: usize, scratch: &mut Scrat
     requires inside { Inside n (chain (view img.now) key used) }
     ensures { result ≡ eqb (twins (view img.now) (drop 1 (slots (chain (view img.now) key used)))) 0 }
 {
+    let volume = Volume { img, n };
     if used < 5 || 65535 < used {
-        return each_with_each(img, n, key, used);
+        return volume.each_with_each(key, used);
     }
     let count = count_active(img, n, key, used);
     let list = &mut *scratch.list;
     let nodes = &mut *scratch.nodes;
     if count < list.len() && count < nodes.len() {
-        unlike_by_tree(img, n, key, used, list, nodes)
+        volume.unlike_by_tree(key, used, list, nodes)
     } else {
-        each_with_each(img, n, key, used)
+        volume.each_with_each(key, used)
     }
 }

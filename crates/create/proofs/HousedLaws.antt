@@ -14,7 +14,7 @@ use Rattle.model.specs.Refusals.{refusal_number, Row, row, first}
 use Rattle.model.specs.Calls.{target, not_prodos, not_sound, bad_path, not_volume, not_directory, is_no_volume, is_no_directory, is_there}
 use Rattle.model.specs.Create.{Wanted, directory_kind, wrong_type}
 use Rattle.model.specs.declared.Refusal.{Refusal}
-use Rattle.model.specs.declared.Refusal.TheVariants.{NoVolume, NoDirectory, Duplicate}
+use Rattle.model.specs.declared.Refusal.TheVariants.{Duplicate}
 use Rattle.directory.specs.Slots.{place_of, entry_of}
 use Rattle.directory.specs.Lookup.{home_of, looked_as}
 use Rattle.directory.specs.declared.Home.{Home}

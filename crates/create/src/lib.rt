@@ -38,7 +38,7 @@ const DIRECTORY: u8 = 0xD;
 
 const DIRECTORY_TYPE: u8 = 0x0F;
 
-// What is to be created.
+// What is to be created. The kind is the caller's byte: any may come, and all but 1 and $D are $4B.
 #[derive(Clone, Copy)]
 struct Wanted {
     kind: u8,
@@ -64,6 +64,7 @@ fn is_wrong_type(kind: u8, ftype: u8) -> bool
 }
 
 // $45, $44 and $47: the directory of the last name of a proper path, where no entry has it, with the number of blocks of its volume.
+#[tactic(auto, using(opening::proofs::SaneLaws::sane))]
 fn housed_at(img: &[u8], n: usize, path: &[u8]) -> Result<(usize, Home), Refusal>
     requires n_bound { (n ≤ 65535) × (length img.now ≡ n * 512) × (sound n (view img.now) ≡ true) }
     requires path_value { proper_path (view path.now) (length path.now) ≡ true }
@@ -71,7 +72,7 @@ fn housed_at(img: &[u8], n: usize, path: &[u8]) -> Result<(usize, Home), Refusal
 {
     match directory::lookup(img, n, path)? {
         Looked::Missing(home) => Ok((n, home)),
-        Looked::There(_, _, _) | Looked::Volume => Err(Refusal::Duplicate),
+        Looked::There { .. } | Looked::Volume => Err(Refusal::Duplicate),
     }
 }
 
@@ -170,6 +171,7 @@ fn gain(img: &mut [u8], start: usize, used: usize, last: usize, z: usize)
 }
 
 // $48; then the entry, in an inactive slot of its directory.
+// The image that changes stays beside its number of blocks: in a struct each contract would have to say that it is the same image still.
 fn create_at(
     img: &mut [u8],
     n: usize,
@@ -233,9 +235,7 @@ fn create_in(
     requires { Whole n img.old × (length name.now ≤ 15) × (wanted.kind < 16) × Houses n (view img.old) home (place_number home.place) }
     ensures { Does (create_in n (view img.old) (place_number home.place) (view name.now) (part 0 (length name.now)) (asked wanted)) (length img.old) result img.new }
 {
-    let key = home.key as usize;
-    let used = home.used as usize;
-    match directory::vacant_in(img, n, key, used) {
+    match directory::vacant_in(img, n, home.key as usize, home.used as usize) {
         Some(place) => create_at(img, n, home, place, name, wanted),
         None => create_behind(img, n, home, name, wanted),
     }

@@ -1,13 +1,13 @@
 -- What destroy answers, by what the path leads to, and that the code does to the decoded entry what the definition does at its place.
-use Rattle.std.specs.Prelude.{Result, Ok, Err}
-use Prim.Native.Nat.{ℕ, zero, suc, ◌+◌, ◌-◌, ◌*◌, ◌/◌, ◌%◌, ◌≤◌, ◌<◌}
+use Rattle.std.specs.Prelude.{Result, Ok, Err, Some, None}
+use Prim.Native.Nat.{ℕ, zero, suc, ◌+◌, ◌-◌, ◌*◌, ◌≤◌, ◌<◌}
 use mathlib.Core.Path.{◌≡◌, refl, sym, ap, ◌∙◌}
 use mathlib.Core.List.{List, [], ◌∷◌}
 use mathlib.Core.Bool.{Bool, true, false, not}
 use lib.Dec.{eqb}
 use lib.ListN.{length}
 use native.Mathlib.Omega.{arith}
-use borrow.Author.Tests.{eq-eqb, ne_eqb}
+use borrow.Author.Tests.{ne_eqb}
 use Rattle.model.specs.Bytes.{Bytes, view, put, put_word, count, ◌and◌}
 use Rattle.model.specs.Kinds.{key_of}
 use Rattle.model.specs.Directory.{at, volume, map_place, map_block, active_count, chain, Sort, inactive, directory, improper, file, sort, is_active, is_directory, live, key, eof, kids, access, there}
@@ -37,7 +37,7 @@ use Rattle.directory.specs.declared.Home.{Home}
 use Rattle.directory.proofs.SlotLaws.{place_number_law, entry_used, entry_key}
 use Rattle.directory.proofs.AnswerLaws.{place_counted}
 use Rattle.opening.specs.Opened.{opened_by}
-use Rattle.opening.specs.Sorts.{height_of}
+use Rattle.opening.specs.Sorts.{data_height}
 use Rattle.opening.specs.declared.Opened.{Opened}
 use Rattle.opening.specs.declared.Opened.TheVariants as opened
 use Rattle.opening.proofs.VolumeLaws.{Fits}
@@ -47,41 +47,35 @@ use Rattle.release.specs.Loose.{Loose, tree}
 use Rattle.release.proofs.Laws.{tree_key}
 use Rattle.destroy.specs.Gone.{kind_blocks, entry_blocks, bare, may_go, entry_gone, entry_destroy, Goes}
 
--- Kinds: a directory has the height 3 here.
-pub height_low : (K : Kind) → height_of K ≤ 3
-height_low (Seedling k) = omega arith
-height_low (Sapling k) = omega arith
-height_low (Tree k) = omega arith
-height_low (Directory k) = omega arith
-
-module _ (K : Kind) (v : Bytes) (u h k : ℕ) (tall : h ≡ height_of K) (keyed : k ≡ key_of K) where
-  pub blocks_chain : h ≡ 3 → kind_blocks K v u ≡ chain v k u
-  blocks_chain e = go K (sym tall ∙ e) ∙ ap (λ (k : ℕ). chain v k u) (sym keyed)
+-- a directory's blocks are its chain, a data file's its tree
+module _ (K : Kind) (v : Bytes) (u k : ℕ) (keyed : k ≡ key_of K) where
+  pub blocks_chain : data_height K ≡ None → kind_blocks K v u ≡ chain v k u
+  blocks_chain e = rw keyed (go K e)
     where
-      go : (K : Kind) → height_of K ≡ 3 → kind_blocks K v u ≡ chain v (key_of K) u
-      go (Seedling k) e = absurd (omega arith)
-      go (Sapling k) e = absurd (omega arith)
-      go (Tree k) e = absurd (omega arith)
+      go : (K : Kind) → data_height K ≡ None → kind_blocks K v u ≡ chain v (key_of K) u
+      go (Seedling k) e = absurd (cc)
+      go (Sapling k) e = absurd (cc)
+      go (Tree k) e = absurd (cc)
       go (Directory k) e = refl
 
-  pub blocks_tree : (h ≡ 3 → ⊥) → kind_blocks K v u ≡ tree v h k
-  blocks_tree e = rw (tall, keyed) (go K (λ z. e (tall ∙ z)))
+  pub blocks_tree : (h : ℕ) → data_height K ≡ Some h → (h ≤ 2) × (kind_blocks K v u ≡ tree v h k)
+  blocks_tree h e = rw keyed (go K h e)
     where
-      go : (K : Kind) → (height_of K ≡ 3 → ⊥) → kind_blocks K v u ≡ tree v (height_of K) (key_of K)
-      go (Seedling k) e = refl
-      go (Sapling k) e = refl
-      go (Tree k) e = refl
-      go (Directory k) e = absurd (e refl)
+      go : (K : Kind) (h : ℕ) → data_height K ≡ Some h → (h ≤ 2) × (kind_blocks K v u ≡ tree v h (key_of K))
+      go (Seedling k) h e = let z : h ≡ 0 = cc in rw z (omega arith, refl)
+      go (Sapling k) h e = let z : h ≡ 1 = cc in rw z (omega arith, refl)
+      go (Tree k) h e = let z : h ≡ 2 = cc in rw z (omega arith, refl)
+      go (Directory k) h e = absurd (cc)
 
 -- $4E in the code
 module _ (v : Bytes) (x : Entry) where
-  pub may_not : (x.access / 128 % 2 ≡ 1 → ⊥) → false ≡ may_go v x
-  unfolding may_go allows ◌and◌
-  may_not h = sym (ap (λ (b : Bool). b and bare x.kind v) (ne_eqb (x.access / 128 % 2) 1 h))
+  pub may_not : allows x.access destroy_bit ≡ false → false ≡ may_go v x
+  unfolding may_go ◌and◌
+  may_not h = sym (ap (λ (b : Bool). b and bare x.kind v) h)
 
-  pub may_bare : x.access / 128 % 2 ≡ 1 → bare x.kind v ≡ may_go v x
-  unfolding may_go allows ◌and◌
-  may_bare h = sym (ap (λ (b : Bool). b and bare x.kind v) (eq-eqb (x.access / 128 % 2) 1 h))
+  pub may_bare : allows x.access destroy_bit ≡ true → bare x.kind v ≡ may_go v x
+  unfolding may_go ◌and◌
+  may_bare h = sym (ap (λ (b : Bool). b and bare x.kind v) h)
 
 -- the image that the code leaves, store by store
 pub gone_image : (v : Bytes) (k a : ℕ) (x : Entry) (c s : ℕ) (f g i : Bytes) → c ≡ active_count v k → s ≡ a → f ≡ given_all map_place v (entry_blocks v x)

@@ -27,15 +27,12 @@ fn may_destroy(img: &[u8], n: usize, entry: Entry) -> bool
     requires { Whole n img.now × (key_of entry.kind < n) }
     ensures { result ≡ may_go (view img.now) entry }
 {
-    if entry.access / 128 % 2 != 1 {
+    if !model::allows(entry.access, model::DESTROY) {
         return false;
     }
-    let kind = entry.kind;
-    match kind {
+    match entry.kind {
         Kind::Directory(key) => store::get_word(img, key as usize * BLOCK + COUNT) == 0,
-        Kind::Seedling(_) => true,
-        Kind::Sapling(_) => true,
-        Kind::Tree(_) => true,
+        Kind::Seedling(_) | Kind::Sapling(_) | Kind::Tree(_) => true,
     }
 }
 
@@ -44,13 +41,11 @@ fn give_blocks(img: &mut [u8], n: usize, entry: Entry)
     requires { Whole n img.old × Loose n (entry_blocks (view img.old) entry) }
     ensures { view img.new ≡ given_all map_place (view img.old) (entry_blocks (view img.old) entry) }
 {
-    let kind = entry.kind;
-    let key = model::key_of(kind) as usize;
-    let height = opening::height_of(kind);
-    if height == 3 {
+    let key = model::key_of(entry.kind) as usize;
+    let Some(height) = opening::height_of(entry.kind) else {
         release::give_chain(img, n, key, entry.used as usize);
         return;
-    }
+    };
     release::give_tree(img, n, height, key);
 }
 
@@ -82,6 +77,11 @@ pub fn destroy(img: &mut [u8], path: &[u8]) -> Result<(), Refusal>
 {
     match opening::opened_by(img, path)? {
         Opened::Volume(_) => Err(Refusal::Locked),
-        Opened::Entry(n, home, place, entry) => destroy_entry(img, n, home, place, entry),
+        Opened::Entry {
+            blocks,
+            home,
+            place,
+            entry,
+        } => destroy_entry(img, blocks, home, place, entry),
     }
 }

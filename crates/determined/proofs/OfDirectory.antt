@@ -5,6 +5,8 @@ use Rattle.directory.proofs.kind_for.Reads as kind-for-reads
 use Rattle.directory.proofs.kind_for.Kinds as kind-for-kinds
 use Rattle.directory.proofs.height_for.Reads as height-for-reads
 use Rattle.directory.proofs.height_for.Kinds as height-for-kinds
+use Rattle.directory.proofs.stamp_at.Reads as stamp-at-reads
+use Rattle.directory.proofs.stamp_at.Kinds as stamp-at-kinds
 use Rattle.directory.proofs.decode.Reads as decode-reads
 use Rattle.directory.proofs.decode.Kinds as decode-kinds
 use Rattle.directory.proofs.slot_at.Reads as slot-at-reads
@@ -23,6 +25,9 @@ kind_for_one κs a r₁ r₂ w₁ w₂ p q = (p ∙ sym q, refl)
 
 pub height_for_one : Determined _ height-for-kinds.ps height-for-kinds.r height-for-reads.Post Nothing-seen (λ _ _ _. none_seen)
 height_for_one κs a r₁ r₂ w₁ w₂ p q = (p.0 ∙ sym q.0, refl)
+
+pub stamp_at_one : Determined _ stamp-at-kinds.ps stamp-at-kinds.r stamp-at-reads.Post Nothing-seen (λ _ _ _. none_seen)
+stamp_at_one κs a r₁ r₂ w₁ w₂ p q = (p ∙ sym q, refl)
 
 pub decode_one : Determined _ decode-kinds.ps decode-kinds.r decode-reads.Post Nothing-seen (λ _ _ _. none_seen)
 decode_one κs a r₁ r₂ w₁ w₂ p q = (p ∙ sym q, refl)

@@ -7,6 +7,8 @@ use Rattle.model.proofs.U8FromKind.from.Reads as kind-number-reads
 use Rattle.model.proofs.U8FromKind.from.Kinds as kind-number-kinds
 use Rattle.model.proofs.key_of.Reads as key-of-reads
 use Rattle.model.proofs.key_of.Kinds as key-of-kinds
+use Rattle.model.proofs.allows.Reads as allows-reads
+use Rattle.model.proofs.allows.Kinds as allows-kinds
 
 pub refusal_number_one : Determined _ refusal-number-kinds.ps refusal-number-kinds.r refusal-number-reads.Post Nothing-seen (λ _ _ _. none_seen)
 refusal_number_one κs a r₁ r₂ w₁ w₂ p q = (p ∙ sym q, refl)
@@ -16,3 +18,6 @@ kind_number_one κs a r₁ r₂ w₁ w₂ p q = (p ∙ sym q, refl)
 
 pub key_of_one : Determined _ key-of-kinds.ps key-of-kinds.r key-of-reads.Post Nothing-seen (λ _ _ _. none_seen)
 key_of_one κs a r₁ r₂ w₁ w₂ p q = (p ∙ sym q, refl)
+
+pub allows_one : Determined _ allows-kinds.ps allows-kinds.r allows-reads.Post Nothing-seen (λ _ _ _. none_seen)
+allows_one κs a r₁ r₂ w₁ w₂ p q = (p ∙ sym q, refl)

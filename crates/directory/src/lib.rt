@@ -32,6 +32,7 @@ const VOLUME_LENGTH: u16 = 4;
 const VOLUME_HEADER: usize = 1028;
 
 // What the bytes of a slot say.
+// An enum of its own, since the cases are three.
 #[derive(Clone, Copy)]
 pub enum Slot {
     Inactive,
@@ -52,7 +53,11 @@ pub struct Home {
 #[derive(Clone, Copy)]
 pub enum Looked {
     Missing(Home),
-    There(Home, Place, Entry),
+    There {
+        home: Home,
+        place: Place,
+        entry: Entry,
+    },
     Volume,
 }
 
@@ -69,6 +74,7 @@ pub fn kind_for(eof: usize, key: u16) -> Kind
 }
 
 // The height of a data file with this EOF: 0 seedling, 1 sapling, 2 tree.
+// A height is a number, as in `file`.
 #[tactic(auto, using(crate::proofs::KindLaws::kind_least, model::proofs::Laws::Entry::height_most), unfolding(model::specs::File::height_for))]
 pub fn height_for(eof: usize) -> usize
     ensures { (result ≡ height_for eof) × (result ≤ 2) }
@@ -76,6 +82,7 @@ pub fn height_for(eof: usize) -> usize
     u8::from(kind_for(eof, 0)) as usize - 1
 }
 
+// The width of an entry's field: `get_word` and `get_long` answer numbers as addresses are.
 fn word_at(slot: &[u8], at: usize) -> u16
     requires { at + 1 < length slot.now }
     ensures { result ≡ word (view slot.now) at }
@@ -90,8 +97,9 @@ fn long_at(slot: &[u8], at: usize) -> u32
     store::get_long(slot, at) as u32
 }
 
+// The stamp that is stored at `at`: its date, then its time.
 #[tactic(auto, unfolding(model::specs::Info::stamp_at))]
-fn stamp_at(slot: &[u8], at: usize) -> Stamp
+pub fn stamp_at(slot: &[u8], at: usize) -> Stamp
     requires { at + 3 < length slot.now }
     ensures { result ≡ stamp_at (view slot.now) at }
 {
@@ -231,6 +239,7 @@ fn first_in<T: Copy, F: Fn(Place) -> Option<T>>(
 }
 
 // The first entry with the name in a directory.
+// The image is lent with its number of blocks: a struct of both would be two, one for `&` and one for `&mut`.
 pub fn find_in(img: &[u8], n: usize, key: usize, used: usize, name: &[u8]) -> Option<(Place, Entry)>
     requires { (n ≤ 65535) × (length img.now ≡ n * 512) × Searchable n (view img.now) key used }
     ensures { result ≡ found_in (view img.now) name.now (listed (view img.now) key used) }
@@ -266,7 +275,7 @@ fn last_of(home: Home, found: Option<(Place, Entry)>) -> Looked
     ensures { result ≡ last_of home found }
 {
     match found {
-        Some((place, entry)) => Looked::There(home, place, entry),
+        Some((place, entry)) => Looked::There { home, place, entry },
         None => Looked::Missing(home),
     }
 }
@@ -287,6 +296,7 @@ fn follow(img: &[u8], n: usize, path: &[u8], from: Cursor) -> Result<Looked, Ref
         used: VOLUME_LENGTH,
     };
     let mut cursor = from;
+    // A `loop`: how many names there are is known at the last one.
     loop {
         match cursor.step(path) {
             Step::Name { start, end, next } => {

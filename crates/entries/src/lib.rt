@@ -58,6 +58,7 @@ fn put_capitals(dst: &mut [u8], to: usize, name: &[u8])
 }
 
 // A name as it is stored: kind and length, the capitals, spare bytes 0.
+// The kind is a number: headers have $E and $F, which are the kinds of no entry.
 #[tactic(auto, using(crate::proofs::Laws::name_stored))]
 pub fn put_name(img: &mut [u8], at: usize, kind: usize, name: &[u8])
     requires { (at + 16 ≤ length img.old) × (length name.now ≤ 15) × (kind < 16) }
@@ -143,6 +144,7 @@ fn write_front(slot: &mut [u8], name: &[u8], kind: usize, ftype: u8, key: usize)
 
 // A new entry with its key block, in the directory that begins at `home`.
 // Eight parameters: the contract names the fields one by one, and the struct that asks for a file is of a crate above.
+// The kind is a number below 16, as the clauses of this crate have it: they may not ask more.
 #[tactic(auto, unfolding(model::specs::Create::entry_bytes, crate::specs::Fields::first_eof))]
 pub fn write_entry(
     slot: &mut [u8],

@@ -1,5 +1,5 @@
 // The blocks and bytes of a data file: the data block of a file block, and a run of bytes read with holes as zero.
-// A file has a height (0 seedling, 1 sapling, 2 tree) and a key. Document 01, "The volume on disk".
+// A file has a height (0 seedling, 1 sapling, 2 tree), a number since code and definitions count by it, and a key. Document 01, "The volume on disk".
 #![tactic(auto)]
 
 ghost use Rattle.std.specs.Prelude.{◌≡◌, ℕ, ◌+◌, ◌*◌, ◌%◌, ◌≤◌, ◌<◌, length};
@@ -9,6 +9,8 @@ ghost use Rattle.facts.specs.Reached.{Deep};
 ghost use Rattle.file.specs.Runs.{run_in};
 
 // The data block of file block p below an index, 0 for a hole.
+// The image is lent with its number of blocks: a struct of both would be two, one for `&` and one for `&mut`.
+// A hole is 0, as in the definition and on the disk. Not one function with the next: one pointer is followed here and two there.
 #[tactic(auto, using(crate::proofs::Laws::in_index, crate::proofs::Laws::index_inside))]
 fn block_in_index(img: &[u8], n: usize, key: usize, p: usize) -> usize
     requires { (n ≤ 65535) × (length img.now ≡ n * 512) × Deep n (view img.now) 1 key }
@@ -65,6 +67,7 @@ fn run_length(position: usize, left: usize) -> usize
 }
 
 // The next count bytes of a file from a position on, to the front of the buffer.
+// Seven parameters: what is read, from where, and where to.
 #[tactic(auto, using(model::proofs::ByteLaws::paste_none, crate::proofs::Laws::run_on))]
 pub fn read_bytes(
     img: &[u8],

@@ -1,5 +1,5 @@
 // What write and set EOF share: a file's end zeroed, new key blocks, and the entry written anew.
-// A file has a height (0 seedling, 1 sapling, 2 tree) and a key. Document 01, "Growing".
+// A file has a height (0 seedling, 1 sapling, 2 tree), a number since code and definitions count by it, and a key. Document 01, "Growing".
 #![tactic(auto)]
 
 ghost use Rattle.std.specs.Prelude.{◌≡◌, not, ◌+◌, ◌-◌, ◌*◌, ◌%◌, ◌≤◌, ◌<◌, length, ltb};
@@ -18,6 +18,7 @@ use model::Stamp;
 const MAP_BLOCK: usize = 6;
 
 // Pointer i of an index block becomes p.
+// By division, as the definition: of the eight bytes of a number a pointer has two, which lie apart.
 #[tactic(auto, unfolding(model::specs::File::put_pointer))]
 pub fn put_pointer(img: &mut [u8], block: usize, i: usize, p: usize)
     requires { (i < 256) × (block * 512 + 512 ≤ length img.old) }
@@ -37,6 +38,7 @@ fn ends_full(eof: usize) -> bool
 }
 
 // Every byte the file owns at EOF and after becomes 0.
+// The image that changes stays beside its number of blocks: in a struct each contract would have to say that it is the same image still.
 #[tactic(auto, unfolding(model::specs::Grow::zeroed_from))]
 pub fn zero_tail(img: &mut [u8], n: usize, height: usize, key: usize, eof: usize)
     requires { (n ≤ 65535) × (length img.old ≡ n * 512) × (height < 3) × (eof < 16777216) × Deep n (view img.old) height key }

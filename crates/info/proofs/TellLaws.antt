@@ -18,6 +18,7 @@ use Rattle.model.specs.Info.{stamp_at, no_space, space, space_number, no_info, i
 use Rattle.model.specs.Answers.{Measures, Tells}
 use Rattle.model.specs.declared.Info.{Info}
 use Rattle.model.specs.declared.Entry.{Entry}
+use Rattle.model.specs.declared.Stamp.{Stamp}
 use Rattle.model.specs.declared.Place.{Place}
 use Rattle.model.specs.declared.Refusal.{Refusal}
 use Rattle.model.proofs.RefusalLaws.{settle_refused, settle_accepted, number_refuses}
@@ -110,7 +111,7 @@ info_entry len v p k n g s x e = go (opened_by len v p k) refl e (seen len v p k
         (entry_told (total len) v d y (target_named (total len) v p k d y f.sane t) off))
 
 -- what get info tells of the volume
-pub volume_told : (n : ℕ) (v : Bytes) (a d t r : ℕ) → a ≡ v 1058 → d ≡ word v 1052 → t ≡ word v 1054 → r ≡ room map_place v n → map_block v ≡ map_place
+pub volume_told : (n : ℕ) (v : Bytes) (a : ℕ) (t : Stamp) (r : ℕ) → a ≡ v 1058 → t ≡ stamp_at v 1052 → r ≡ room map_place v n → map_block v ≡ map_place
     → ◌≡◌ {A = Info} (record {
       kind = 0xF;
       ftype = 0x0F;
@@ -118,8 +119,8 @@ pub volume_told : (n : ℕ) (v : Bytes) (a d t r : ℕ) → a ≡ v 1058 → d �
       aux = n;
       used = n - r;
       eof = 2048;
-      created = record { date = d; time = t };
-      modified = record { date = d; time = t };
+      created = t;
+      modified = t;
     }) (volume_info n v)
-unfolding volume_info ftype eof stamp_at at
-volume_told n v a d t r ea ed et er m = rw (ea, ed, et, er, m) refl
+unfolding volume_info ftype eof at
+volume_told n v a t r ea et er m = rw (ea, et, er, m) refl

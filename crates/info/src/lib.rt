@@ -1,14 +1,14 @@
 // Get info and space: the calls that only tell. Each answers for every image and every argument; a refusal has the number of document 01.
 #![tactic(auto)]
 
-ghost use Rattle.std.specs.Prelude.{◌≡◌, ◌+◌, ◌*◌, ◌≤◌, ◌<◌, length};
-ghost use Rattle.model.specs.Bytes.{view, word};
+ghost use Rattle.std.specs.Prelude.{◌≡◌, ◌*◌, ◌≤◌, length};
+ghost use Rattle.model.specs.Bytes.{view};
 ghost use Rattle.model.specs.Directory.{map_block, map_place};
 ghost use Rattle.model.specs.Info.{volume_info, get_info, space as spaceCall};
 ghost use Rattle.model.specs.Answers.{Tells, Measures};
 ghost use Rattle.info.specs.Told.{told};
 
-use model::{Entry, Info, Refusal, Space, Stamp};
+use model::{Entry, Info, Refusal, Space};
 use opening::Opened;
 
 const MAP_BLOCK: usize = 6;
@@ -28,6 +28,7 @@ pub fn space(img: &[u8]) -> Result<Space, Refusal>
 }
 
 // What get info tells of an entry.
+// A function, since `told` says what it gives.
 fn entry_info(entry: Entry) -> Info
     ensures { result ≡ told entry }
 {
@@ -43,22 +44,12 @@ fn entry_info(entry: Entry) -> Info
     }
 }
 
-fn half(img: &[u8], at: usize) -> u16
-    requires { at + 1 < length img.now }
-    ensures { result ≡ word (view img.now) at }
-{
-    store::get_word(img, at) as u16
-}
-
 // What get info tells of the volume.
 fn volume_info(img: &[u8], n: usize) -> Info
     requires { (16 ≤ n) × (n ≤ 65535) × (length img.now ≡ n * 512) × (map_block (view img.now) ≡ map_place) }
     ensures { result ≡ volume_info n (view img.now) }
 {
-    let created = Stamp {
-        date: half(img, VOLUME_HEADER + 0x18),
-        time: half(img, VOLUME_HEADER + 0x1A),
-    };
+    let created = directory::stamp_at(img, VOLUME_HEADER + 0x18);
     let used = n - map::free_blocks(img, MAP_BLOCK, n);
     Info {
         kind: 0xF,
@@ -78,6 +69,6 @@ pub fn get_info(img: &[u8], path: &[u8]) -> Result<Info, Refusal>
 {
     match opening::opened_by(img, path)? {
         Opened::Volume(n) => Ok(volume_info(img, n)),
-        Opened::Entry(_, _, _, entry) => Ok(entry_info(entry)),
+        Opened::Entry { entry, .. } => Ok(entry_info(entry)),
     }
 }

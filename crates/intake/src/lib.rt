@@ -12,6 +12,7 @@ use std::io::{ErrorKind, Input, Read};
 const LONGEST_NAME: usize = 256;
 
 // Reads until the room is full or the input ends, and answers how many bytes came.
+// Counted, so that each loop is shown to end.
 fn read_full<R: Read>(input: &mut R, room: &mut [u8]) -> io::Result<usize>
     ensures { ReadsAtMost result room.new }
 {

@@ -55,6 +55,11 @@ pub struct BadFields {
     pub command: Command,
 }
 
+// What a command answers whose line is bad: it asks for more than there is, and nothing was changed or printed.
+#[derive(Clone, Copy)]
+pub struct BadLine;
+
+// Tests one by one: of a byte string in a pattern a proof knows the length alone.
 #[tactic(auto, unfolding(crate::specs::Commands::named))]
 fn look_of(line: &[u8], end: usize) -> Command
     ensures { result ≡ look_from (view line.now) (length line.now) end }

@@ -224,6 +224,9 @@ module _ {n l b u t : ℕ} {v : Bytes} (more : 0 < u) (w : Pending n v l b u t) 
         entries = each_back (Listed v l) (slots_from b t) _ _ (rest_more v b u t more w.low w.high) w.entries;
       }
 
+pub slot_few : (img : List ℕ) (s : ℕ) → Whole img → s / 13 < block_count img → s / 13 < 65536
+slot_few img s whole h = omega (arith, (sound_facts (block_count img) (view img) whole.safe).most)
+
 -- A slot that the walk meets, at the address a, as the code reads it.
 module _ (img : List ℕ) (l s a : ℕ) (whole : Whole img) (w : Listed (view img) l s) (start : a ≡ at s) where
   kind_at : (k : ℕ) → view img a / 16 ≡ k → view img (at s) / 16 ≡ k
@@ -237,9 +240,6 @@ module _ (img : List ℕ) (l s a : ℕ) (whole : Whole img) (w : Listed (view im
 
   field_at : (o r x : ℕ) → x ≡ word (view img) (a + o) → x ≡ field (view img) s o r
   field_at o r x e = e ∙ ap (λ b. word (view img) (b + o)) start ∙ sym (field_by (view img) s o r w.entry)
-
-  pub slot_few : s / 13 < block_count img → s / 13 < 65536
-  slot_few h = omega (arith, (sound_facts (block_count img) (view img) whole.safe).most)
 
   pub slot_quiet : (p : List ℕ) → view img a / 16 ≡ 0 → [] ≡ walked (view img) l p (s ∷ [])
   slot_quiet p h = quiet_text (view img) l p s w.entry (kind_at 0 h)
@@ -277,7 +277,7 @@ pub volume_chained : (n : ℕ) (img : List ℕ) → length img ≡ n * 512 → s
 unfolding field
 volume_chained n img e h = met_chained (whole n img e h).safe top (volume_directory (view img))
 
-pub volume_text : (n : ℕ) (f v : Bytes) (p : List ℕ) → p ≡ text f 0 0 ++ (slash ∷ text v 1029 (name_size v 1028))
+pub volume_text : (n : ℕ) (v : Bytes) (p : List ℕ) → p ≡ slash ∷ text v 1029 (name_size v 1028)
     → first_line n v ++ walked v level_most p (listed v 2 4) ≡ listing n v
 unfolding listing walked text at field sort slots_below
-volume_text n f v p e = ap (λ q. first_line n v ++ walked v level_most q (listed v 2 4)) e
+volume_text n v p e = ap (λ q. first_line n v ++ walked v level_most q (listed v 2 4)) e

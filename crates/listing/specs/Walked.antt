@@ -1,11 +1,10 @@
 -- The text of a directory's slots and all that is below them, and what the walk relies on.
-use Rattle.std.specs.Prelude.{ℕ, ◌+◌, ◌*◌, ◌/◌, ◌<◌, ◌≡◌, true, List, [], ◌∷◌, ◌++◌, length}
+use Rattle.std.specs.Prelude.{ℕ, ◌*◌, ◌/◌, ◌<◌, ◌≡◌, true, List, [], ◌∷◌, ◌++◌, length}
 use Rattle.model.specs.Bytes.{Bytes, view, word, long, gather}
-use Rattle.model.specs.Names.{slash, name_size}
 use Rattle.model.specs.Directory.{volume, chain, kids}
 use Rattle.model.specs.Walk.{walk}
 use Rattle.model.specs.Sound.{sound}
-use Rattle.model.specs.Catalog.{space', newline, decimal, hex_digit, hex_byte, text, below, line}
+use Rattle.model.specs.Catalog.{space', newline, decimal, hex_digit, hex_byte, below, line}
 use Rattle.facts.specs.Reached.{Met}
 use Rattle.directory.specs.Search.{Each, listed}
 
@@ -20,12 +19,6 @@ line_of f p =
 -- the lines of the slots ss and all that is below them, l levels deep; p is the path of their directory
 unfoldable pub walked : Bytes → ℕ → List ℕ → List ℕ → List ℕ
 walked v l p ss = gather (line v) (walk (kids v) (below v) l p ss)
-
--- A path that was the first k bytes of `old` is, with a slash and the name stored at a, the first r bytes of `new`.
-pub record Extended (old : Bytes) (k : ℕ) (v : Bytes) (a : ℕ) (new : Bytes) (r : ℕ) : Type 0 where
-  pub size : r ≡ k + 1 + name_size v a
-  pub reads : text new 0 r ≡ text old 0 k ++ (slash ∷ text v (a + 1) (name_size v a))
-  pub kept : text new 0 k ≡ text old 0 k
 
 -- how many blocks an image has, and an image that is a sound volume
 abbrev pub block_count : List ℕ → ℕ

@@ -14,7 +14,7 @@ ghost use Rattle.looks.specs.Looks.{equals, has_block, block_line, info_line, Re
 
 use directory::Home;
 use ink::Ink;
-use lines::Look;
+use lines::{BadLine, Look};
 use model::Place;
 use opening::Opened;
 use script::FIELDS;
@@ -24,23 +24,24 @@ const BLOCK: usize = 512;
 // What a buffer holds before a read, so that bytes left alone are seen.
 const BEFORE: u8 = 0xA5;
 
-fn block(img: &[u8], number: usize, page: &mut [u8], ink: Ink) -> Option<Ink>
+fn block(img: &[u8], number: usize, page: &mut [u8], ink: &mut Ink) -> Result<(), BadLine>
     requires { number ≤ 4294967295 }
-    ensures { Says (has_block (length img.now) number) (block_line (length img.now) (view img.now) number) (sheet ink page.old) result page.new }
+    ensures { Says (has_block (length img.now) number) (block_line (length img.now) (view img.now) number) (sheet ink.old page.old) result ink.new page.new }
 {
     let start = number * BLOCK;
     let end = start + BLOCK;
     if img.len() < end {
-        return None;
+        return Err(BadLine);
     }
-    Some(replies::say_bytes(page, ink, &img[start..end]))
+    replies::say_bytes(page, ink, &img[start..end]);
+    Ok(())
 }
 
 #[tactic(auto, unfolding(crate::specs::Looks::info_line))]
-fn get_info(img: &[u8], path: &[u8], page: &mut [u8], ink: Ink) -> Ink
-    ensures { Prints (info_line (length img.now) (view img.now) (view path.now) (length path.now)) (sheet ink page.old) (sheet result page.new) }
+fn get_info(img: &[u8], path: &[u8], page: &mut [u8], ink: &mut Ink)
+    ensures { Prints (info_line (length img.now) (view img.now) (view path.now) (length path.now)) (sheet ink.old page.old) (sheet ink.new page.new) }
 {
-    replies::say_info(page, ink, info::get_info(img, path))
+    replies::say_info(page, ink, info::get_info(img, path));
 }
 
 // The call read, with a buffer of its own.
@@ -50,14 +51,14 @@ fn read_into(
     position: usize,
     buffer: &mut [u8],
     page: &mut [u8],
-    ink: Ink,
-) -> Ink
-    ensures { ReadsInto (readCall (length img.now) (view img.now) (view path.now) (length path.now) position (equals (length buffer.old) 0xA5) (length buffer.old)) (length buffer.old) (sheet ink page.old) result buffer.new page.new }
+    ink: &mut Ink,
+)
+    ensures { ReadsInto (readCall (length img.now) (view img.now) (view path.now) (length path.now) position (equals (length buffer.old) 0xA5) (length buffer.old)) (length buffer.old) (sheet ink.old page.old) ink.new buffer.new page.new }
 {
     let size = buffer.len();
     store::fill_run(buffer, 0, size, BEFORE);
     let answer = read::read(img, path, position, buffer);
-    replies::say_read(page, ink, answer, buffer)
+    replies::say_read(page, ink, answer, buffer);
 }
 
 // The same with the first bytes of the buffer; a line that asks for more than it holds is bad.
@@ -67,23 +68,24 @@ fn read(
     room: &[u8],
     buffer: &mut [u8],
     page: &mut [u8],
-    ink: Ink,
-) -> Option<Ink>
+    ink: &mut Ink,
+) -> Result<(), BadLine>
     requires { (length room.now ≡ 256) × (view values.now 0 ≤ 128) }
-    ensures { Leaves (read_look (length img.now) (view img.now) (length buffer.old) (held values.now room.now buffer.old)) (sheet ink page.old) result img.now buffer.new page.new }
+    ensures { Leaves (read_look (length img.now) (view img.now) (length buffer.old) (held values.now room.now buffer.old)) (sheet ink.old page.old) result ink.new img.now buffer.new page.new }
 {
     let count = values[2];
     if buffer.len() < count {
-        return None;
+        return Err(BadLine);
     }
-    Some(read_into(
+    read_into(
         img,
         &room[0..values[0]],
         values[1],
         &mut buffer[0..count],
         page,
         ink,
-    ))
+    );
+    Ok(())
 }
 
 // How many blocks of a directory's chain are read from its key block on until a block is reached.
@@ -101,27 +103,29 @@ fn blocks_read(img: &[u8], key: usize, goal: usize) -> usize
     most.max(1)
 }
 
-fn say_found(img: &[u8], home: Home, place: Place, page: &mut [u8], ink: Ink) -> Ink
-    ensures { Prints (ok_line place_forms (place.block ∷ place.slot ∷ blocks_read (length img.now) (view img.now) home.key place.block ∷ [])) (sheet ink page.old) (sheet result page.new) }
+fn say_found(img: &[u8], home: Home, place: Place, page: &mut [u8], ink: &mut Ink)
+    ensures { Prints (ok_line place_forms (place.block ∷ place.slot ∷ blocks_read (length img.now) (view img.now) home.key place.block ∷ [])) (sheet ink.old page.old) (sheet ink.new page.new) }
 {
     let block = place.block as usize;
     let read = blocks_read(img, home.key as usize, block);
-    replies::say_ok(page, ink, b"NNN", &[block, place.slot as usize, read])
+    replies::say_ok(page, ink, b"NNN", &[block, place.slot as usize, read]);
 }
 
 // Where the entry stands that a path leads to; the volume's header is slot 1 of block 2.
 #[tactic(auto, unfolding(crate::specs::Looks::found_line))]
-fn find(img: &[u8], path: &[u8], page: &mut [u8], ink: Ink) -> Ink
-    ensures { Prints (found_line (length img.now) (view img.now) (opened_by (length img.now) (view img.now) (view path.now) (length path.now))) (sheet ink page.old) (sheet result page.new) }
+fn find(img: &[u8], path: &[u8], page: &mut [u8], ink: &mut Ink)
+    ensures { Prints (found_line (length img.now) (view img.now) (opened_by (length img.now) (view img.now) (view path.now) (length path.now))) (sheet ink.old page.old) (sheet ink.new page.new) }
 {
     match opening::opened_by(img, path) {
         Err(why) => replies::say_refused(page, ink, why),
         Ok(Opened::Volume(_)) => replies::say_ok(page, ink, b"NNN", &[2, 1, 1]),
-        Ok(Opened::Entry(_, home, place, _)) => say_found(img, home, place, page, ink),
+        Ok(Opened::Entry { home, place, .. }) => say_found(img, home, place, page, ink),
     }
 }
 
 // A command whose fields are good.
+// The values and the texts stay apart, since `read_line` is lent each: a type for both would ask more of its callers.
+// A match: each command takes other fields and lends other parts.
 #[tactic(auto, unfolding(crate::specs::Looks::looked))]
 pub fn run(
     look: Look,
@@ -130,18 +134,19 @@ pub fn run(
     room: &[u8],
     buffer: &mut [u8],
     page: &mut [u8],
-    ink: Ink,
-) -> Option<Ink>
+    ink: &mut Ink,
+) -> Result<(), BadLine>
     requires { (Fitting (command.Look look) (length buffer.old) values.now) × (length room.now ≡ 256) }
-    ensures { Leaves (looked look (length img.now) (view img.now) (length buffer.old) (held values.now room.now buffer.old)) (sheet ink page.old) result img.now buffer.new page.new }
+    ensures { Leaves (looked look (length img.now) (view img.now) (length buffer.old) (held values.now room.now buffer.old)) (sheet ink.old page.old) result ink.new img.now buffer.new page.new }
 {
     let first = values[0];
     match look {
-        Look::Digest => Some(replies::say_digest(page, ink, img)),
-        Look::Block => block(img, first, page, ink),
-        Look::Space => Some(replies::say_space(page, ink, info::space(img))),
-        Look::GetInfo => Some(get_info(img, &room[0..first], page, ink)),
-        Look::Read => read(img, values, room, buffer, page, ink),
-        Look::Find => Some(find(img, &room[0..first], page, ink)),
+        Look::Digest => replies::say_digest(page, ink, img),
+        Look::Block => block(img, first, page, ink)?,
+        Look::Space => replies::say_space(page, ink, info::space(img)),
+        Look::GetInfo => get_info(img, &room[0..first], page, ink),
+        Look::Read => read(img, values, room, buffer, page, ink)?,
+        Look::Find => find(img, &room[0..first], page, ink),
     }
+    Ok(())
 }

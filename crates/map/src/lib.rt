@@ -88,6 +88,7 @@ fn block_after(img: &[u8], m: usize, b: usize) -> usize
 }
 
 // The first free block from a hint on, n where there is none.
+// It answers n for none, as the definition does: there is no failure to answer.
 pub fn first_free(img: &[u8], m: usize, n: usize, hint: usize) -> usize
     requires { (n ≤ 65535) × (hint ≤ n) × (m * 512 + map_blocks n * 512 ≤ length img.now) }
     ensures { (result ≡ first_free m (view img.now) hint (n - hint)) × (result ≤ n) }

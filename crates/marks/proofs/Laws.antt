@@ -3,7 +3,7 @@ use mathlib.Core.Path.{◌≡◌, refl, sym, ap, ◌∙◌, fun_ext}
 use mathlib.Core.List.{List, [], ◌∷◌, ◌++◌}
 use mathlib.Core.Bool.{Bool, true, false, not, beq}
 use mathlib.Core.Option.{none, some}
-use Prim.Native.Nat.{ℕ, zero, suc, ◌+◌, ◌-◌, ◌*◌, ◌/◌, ◌%◌, ◌^◌, ◌≤◌, ◌<◌}
+use Prim.Native.Nat.{ℕ, zero, suc, ◌+◌, ◌-◌, ◌*◌, ◌/◌, ◌%◌, ◌≤◌, ◌<◌}
 use native.Mathlib.Omega.{arith}
 use borrow.Author.Tests.{eqb-true, eqb-false, eq-eqb, ne_eqb, ltb-true, ltb-false, lt-ltb, le-ltb, le-leb, leb-true}
 use lib.Dec.{eqb, leb, ltb}
@@ -202,33 +202,6 @@ module _ (n : ℕ) (v : Bytes) (e h q k f : ℕ) (first : f ≡ first_below h q)
 pub flat_count : (v : Bytes) (h q k : ℕ) → h ≡ 0 → 1 ≡ length (nodes v h q k)
 unfolding nodes
 flat_count v h q k z = sym (ap (λ (h : ℕ). length (nodes v h q k)) z)
-
--- The number of a part and the first file block below it, where the whole begins below 65,536: a shift by 8 bits for each height.
-number_low : (h q : ℕ) → q ≤ first_below h q
-unfolding first_below
-number_low zero q = omega arith
-number_low (suc h) q = omega (arith, number_low h (q * 256))
-
-pub number_small : (h q : ℕ) → first_below h q < 65536 → q < 65536
-number_small h q l = omega (arith, number_low h q)
-
-pub key_first : (h : ℕ) → first_below h 0 ≡ 0
-unfolding first_below
-key_first zero = refl
-key_first (suc h) = key_first h
-
-pub part_first : (h q i : ℕ) → h < 2 → i < 256 → first_below (suc h) q < 65536 → first_below h (q * 256 + i) < 65536
-unfolding first_below
-part_first zero q i b il l = omega arith
-part_first (suc zero) q i b il l = omega arith
-part_first (suc (suc h)) q i b il l = absurd (omega arith)
-
-pub first_shift : (h q : ℕ) → h < 3 → first_below h q < 65536 → q * 2 ^ (8 * h) % 18446744073709551616 ≡ first_below h q
-unfolding first_below
-first_shift zero q b l = omega arith
-first_shift (suc zero) q b l = omega arith
-first_shift (suc (suc zero)) q b l = omega arith
-first_shift (suc (suc (suc h))) q b l = absurd (omega arith)
 
 -- How many blocks a tree has at most.
 unfoldable most : ℕ → ℕ

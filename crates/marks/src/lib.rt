@@ -63,7 +63,9 @@ fn claim_node(seen: &mut [u8], first: usize, end: usize, b: usize, n: usize) -> 
 }
 
 // Claims the block `key` of a file, which has a height and a number among those of its height, and what lies below it.
-#[tactic(auto, using(crate::proofs::Laws::node_on_volume, crate::proofs::Laws::number_small))]
+// A height is a number, as in `file`.
+// Seven parameters: those of `claim_tree`, and the number of the part.
+#[tactic(auto, using(crate::proofs::Laws::node_on_volume, model::proofs::Laws::FirstBlock::number_small))]
 fn claim_part(
     img: &[u8],
     seen: &mut [u8],
@@ -94,7 +96,7 @@ fn claim_part(
 }
 
 // Claims the blocks of a file of a height that ends before file block `end`, and counts them.
-#[tactic(auto, using(crate::proofs::Laws::key_first))]
+#[tactic(auto, using(model::proofs::Laws::Room::first_zero))]
 pub fn claim_tree(
     img: &[u8],
     seen: &mut [u8],

@@ -24,6 +24,7 @@ pub mod Weigh
 pub mod Move
 pub mod Take
 pub mod Room
+pub mod FirstBlock
 pub mod Data
 pub mod Need
 pub mod Pour

@@ -2,9 +2,10 @@
 // Their numbers and meanings stand in specs/, a file for each heading of document 01.
 #![tactic(auto)]
 
-ghost use Rattle.std.specs.Prelude.{◌≡◌};
+ghost use Rattle.std.specs.Prelude.{◌≡◌, ◌<◌};
 ghost use Rattle.model.specs.Refusals.{refusal_number};
 ghost use Rattle.model.specs.Kinds.{kind_number, key_of};
+ghost use Rattle.model.specs.Calls.{allows};
 
 // Why a call is refused. Document 01, "Refusal numbers"; $4B stands there twice and is one case.
 #[derive(Clone, Copy, Debug, PartialEq, Eq)]
@@ -61,7 +62,8 @@ pub struct Place {
     pub slot: u8,
 }
 
-// What get info tells: of the volume, kind is $F.
+// What get info tells. The kind is a number: that of the volume is $F, which is no `Kind`.
+// Not one type with `Entry` by the kind: clauses and definitions name both.
 #[derive(Clone, Copy)]
 pub struct Info {
     pub kind: u8,
@@ -126,4 +128,22 @@ pub fn key_of(k: Kind) -> u16
     match k {
         Kind::Seedling(b) | Kind::Sapling(b) | Kind::Tree(b) | Kind::Directory(b) => b,
     }
+}
+
+// The bits of an access that a call may need.
+pub const DESTROY: u8 = 0x80;
+
+pub const RENAME: u8 = 0x40;
+
+pub const WRITE: u8 = 0x02;
+
+pub const READ: u8 = 0x01;
+
+// Whether an access has a bit.
+#[tactic(auto, unfolding(crate::specs::Calls::allows))]
+pub fn allows(access: u8, bit: u8) -> bool
+    requires { 0 < bit }
+    ensures { result ≡ allows access bit }
+{
+    access / bit % 2 == 1
 }

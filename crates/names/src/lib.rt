@@ -19,6 +19,7 @@ pub struct Cursor {
 }
 
 // What a step over a path finds.
+// An enum of its own, since the cases are three.
 #[derive(Clone, Copy)]
 pub enum Step {
     // A proper name from start up to end, and the cursor behind it.
@@ -61,6 +62,7 @@ fn are_name_bytes(s: &[u8], start: usize, end: usize) -> bool
 }
 
 // The size is tested first, so that no more bytes are looked at than a name can have.
+// From start up to end of the path: a step gives both.
 pub fn is_proper_between(s: &[u8], start: usize, end: usize) -> bool
     requires { (start ≤ end) × (end ≤ length s.now) }
     ensures { result ≡ proper_name (view s.now) start (end - start) }
@@ -148,6 +150,7 @@ pub fn is_proper_path(path: &[u8]) -> bool
         return false;
     }
     let mut cursor = Cursor::new();
+    // A `loop`: how many names there are is known at the last one.
     loop {
         match cursor.step(path) {
             Step::Name { next, .. } => cursor = next,

@@ -7,17 +7,16 @@ use lib.Dec.{leb, eqb}
 use borrow.Author.Tests.{eq-eqb, le-leb, leb-true, eqb-true}
 use Rattle.model.specs.Bytes.{Bytes, within, ◌and◌}
 use Rattle.model.specs.Directory.{at, volume, Target, no_volume, no_directory, missing, there}
-use Rattle.model.specs.Names.{proper_path}
 use Rattle.model.specs.Sound.{whole_blocks, prodos, sound}
-use Rattle.model.specs.Calls.{total, target}
+use Rattle.model.specs.Calls.{total}
 use Rattle.model.specs.declared.Refusal.{Refusal}
-use Rattle.model.specs.declared.Refusal.TheVariants.{NotProdos, NotSound, BadPath, NoVolume, NoDirectory, NotFound}
+use Rattle.model.specs.declared.Refusal.TheVariants.{NotProdos, NotSound, NotFound}
 use Rattle.claims.proofs.TestLaws.{and_true, and_false}
 use Rattle.directory.specs.Slots.{place_of, entry_of}
 use Rattle.directory.specs.Lookup.{home_of, looked_as}
 use Rattle.directory.specs.declared.Looked.{Looked}
 use Rattle.directory.specs.declared.Looked.TheVariants as looked
-use Rattle.opening.specs.Opened.{volume_in, opened_at, opened_on, opened_by}
+use Rattle.opening.specs.Opened.{volume_in, opened_at}
 use Rattle.opening.specs.declared.Opened.{Opened}
 use Rattle.opening.specs.declared.Opened.TheVariants as opened
 

@@ -1,4 +1,5 @@
 -- The entry that a path leads to on a sound volume: it is active and of one of the four kinds, and what its slot says is what the walk reads.
+use Rattle.std.specs.Prelude.{Some, None}
 use Prim.Native.Nat.{ℕ, zero, suc, ◌-◌, ◌≤◌, ◌<◌}
 use mathlib.Core.Path.{◌≡◌, refl, sym, ap, ◌∙◌}
 use mathlib.Core.Bool.{Bool, true, false}
@@ -19,7 +20,7 @@ use Rattle.facts.specs.Reached.{Met, Led, led_there}
 use Rattle.facts.proofs.LookupLaws.{lookup_led}
 use Rattle.facts.proofs.SlotLaws.{improper_fault}
 use Rattle.directory.specs.Slots.{kind_of, entry_of, entry_with}
-use Rattle.opening.specs.Sorts.{is_folder, height_of}
+use Rattle.opening.specs.Sorts.{is_folder, height_of, data_height}
 
 -- a slot that a path leads to
 pub record Named (v : Bytes) (d s : ℕ) : Type 0 where
@@ -54,18 +55,19 @@ kind_back (suc (suc zero)) k a p = refl
 kind_back (suc (suc (suc zero))) k a p = refl
 kind_back (suc (suc (suc (suc c)))) k a p = kind_high (suc (suc (suc (suc c)))) k (omega arith) p
 
--- only a directory has the height 3
-pub folder : (k : Kind) → height_of k ≡ 3 → is_folder k ≡ true
-folder (Seedling b) e = absurd (omega arith)
-folder (Sapling b) e = absurd (omega arith)
-folder (Tree b) e = absurd (omega arith)
+-- only a directory has no height
+pub folder : (k : Kind) → data_height k ≡ None → is_folder k ≡ true
+folder (Seedling b) e = absurd (cc)
+folder (Sapling b) e = absurd (cc)
+folder (Tree b) e = absurd (cc)
 folder (Directory b) e = refl
 
-pub no_folder : (k : Kind) → (height_of k ≡ 3 → ⊥) → is_folder k ≡ false
-no_folder (Seedling b) e = refl
-no_folder (Sapling b) e = refl
-no_folder (Tree b) e = refl
-no_folder (Directory b) e = absurd (e refl)
+-- a data file has its own
+pub plain : (k : Kind) (h : ℕ) → data_height k ≡ Some h → (is_folder k ≡ false) × (h ≡ height_of k)
+plain (Seedling b) h e = (refl, cc)
+plain (Sapling b) h e = (refl, cc)
+plain (Tree b) h e = (refl, cc)
+plain (Directory b) h e = absurd (cc)
 
 -- a proper kind and the sort it was read from
 pub folder_sort : (K : Sort) (k : ℕ) → is_active K ≡ true → (K ≡ improper → ⊥) → is_folder (kind_of K k) ≡ is_directory K

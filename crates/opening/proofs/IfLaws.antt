@@ -14,7 +14,6 @@ use Rattle.model.proofs.RefusalLaws.{first_applies, first_passes}
 use Rattle.claims.proofs.TestLaws.{decide}
 use Rattle.opening.specs.Opened.{volume_in, opened_at, opened_on, opened_by, opened_on_if, opened_if}
 use Rattle.opening.specs.declared.Opened.{Opened}
-use Rattle.opening.specs.declared.Opened.TheVariants as opened
 use Rattle.opening.proofs.VolumeLaws.{volume_or, volume_first}
 use Rattle.opening.proofs.OpenedLaws.{opened_or, target_first}
 

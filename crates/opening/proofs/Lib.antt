@@ -6,3 +6,4 @@ pub mod EntryLaws
 pub mod CodeLaws
 pub mod IfLaws
 pub mod PlaceLaws
+pub mod PassLaws

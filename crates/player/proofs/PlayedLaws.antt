@@ -17,14 +17,14 @@ use Rattle.script.specs.Fields.{Fields, end_at, Takes}
 use Rattle.replies.specs.Lines.{ok_line, bad_line}
 use Rattle.lines.specs.declared.Command.{Command}
 use Rattle.lines.specs.declared.Command.TheVariants as command
-use Rattle.std.specs.Prelude.{Option, Some, None}
-use Rattle.std.specs.Option.{is_some}
+use Rattle.std.specs.Prelude.{Result, Ok, Err}
+use Rattle.std.specs.Result.{is_ok}
+use Rattle.lines.specs.declared.BadLine.{BadLine}
 use Rattle.lines.specs.Commands.{command_of, asked, held, unplaced, cut}
 use Rattle.lines.specs.Left.{Left}
 use Rattle.lines.specs.Left as left
 use Rattle.lines.proofs.PartLaws.{view_cut, view_zeros, part_as, front_back}
-use Rattle.player.specs.Played.{Rooms, Stage, After, refused, renewed, on_image, obeyed, answered, commanded, is_silent, ready, printed, page_of, played, played_from, played_all, staged, rooms, Holds, stage, size_left, ink_left, Leaves, Renews}
-use Rattle.player.specs.declared.After.{After as Told}
+use Rattle.player.specs.Played.{Rooms, Stage, After, refused, renewed, on_image, obeyed, answered, commanded, is_silent, ready, printed, page_of, played, played_from, played_all, staged, rooms, Holds, stage, size_left, Leaves, Renews}
 
 -- A line that prints nothing.
 module _ (s : Bytes) (n : ℕ) where
@@ -50,40 +50,33 @@ unfolding ready
 ready_empty used h = rw (lt-leb used 61440 h, ready)
 
 -- What a command leaves, by another name.
-pub leaves_as : {o u : After} {had : ℕ} {s : Sheet} {r : Option Told} {i b p : List ℕ} → o ≡ u → Leaves u had s r i b p → Leaves o had s r i b p
+pub leaves_as : {o u : After} {had : ℕ} {s : Sheet} {r : Result ℕ BadLine} {k : Ink} {i b p : List ℕ} → o ≡ u → Leaves u had s r k i b p → Leaves o had s r k i b p
 leaves_as e l = rw e l
 
 -- A new image, as it was asked for.
-pub renewed_leaves : (image buffer page : List ℕ) (wanted size used : ℕ) {s : Sheet} {r : Option Told} {i p : List ℕ} → Renews (length image) wanted size (view image) s r i p
-    → Leaves (renewed (rooms image buffer page) wanted (stage size used image buffer page) (view buffer)) size s r i buffer p
+pub renewed_leaves : (image buffer page : List ℕ) (wanted size used : ℕ) {s : Sheet} {r : Result ℕ BadLine} {k : Ink} {i p : List ℕ} → Renews (length image) wanted size (view image) s r k i p
+    → Leaves (renewed (rooms image buffer page) wanted (stage size used image buffer page) (view buffer)) size s r k i buffer p
 unfolding renewed
-renewed_leaves image buffer page wanted size used {s} {r} {i} {p} h = go (leb wanted (length image)) h.size h.good h.image h.page
+renewed_leaves image buffer page wanted size used {s} {r} {k} {i} {p} h = go (leb wanted (length image)) h.size h.good h.image h.page
   where
-    go : (b : Bool) → size_left size r ≡ elim b [ true ↦ wanted | false ↦ size ] → is_some r ≡ b → view i ≡ elim b [ true ↦ clear (view image) 0 wanted | false ↦ view image ]
-        → Prints (elim b [ true ↦ ok_line [] [] | false ↦ [] ]) s (sheet (ink_left s r) p)
+    go : (b : Bool) → size_left size r ≡ elim b [ true ↦ wanted | false ↦ size ] → is_ok r ≡ b → view i ≡ elim b [ true ↦ clear (view image) 0 wanted | false ↦ view image ]
+        → Prints (elim b [ true ↦ ok_line [] [] | false ↦ [] ]) s (sheet k p)
         → Leaves (elim b [
           | true ↦ record { size = wanted; image = clear (view image) 0 wanted; buffer = view buffer; good = true; text = ok_line [] [] }
           | false ↦ refused (stage size used image buffer page) (view buffer)
-        ]) size s r i buffer p
-    go true e g f k = record { size = e; good = g; image = f; buffer = refl; page = k }
-    go false e g f k = record { size = e; good = g; image = f; buffer = refl; page = k }
-
--- The answer of a command on an image of so many bytes.
-abbrev pub sized : ℕ → Option Ink → Option Told
-sized n (Some k) = Some (record { size = n; ink = k })
-sized n None = None
+        ]) size s r k i buffer p
+    go true e g f w = record { size = e; good = g; image = f; buffer = refl; page = w }
+    go false e g f w = record { size = e; good = g; image = f; buffer = refl; page = w }
 
 -- A command on the image, which is lent as the first bytes of its room: what it does goes by the image's length and bytes, and ys come back for them.
 module _ (image : List ℕ) (size : ℕ) (fits : size ≤ length image) where
-  pub on_image_law : (does : ℕ → Bytes → Left) (used : ℕ) (buffer page ys : List ℕ) {s : Sheet} (r : Option Ink) {i b p : List ℕ} → view i ≡ paste (view image) 0 size (view ys)
-      → left.Leaves (does (length (take (size - 0) (drop 0 image))) (view (take (size - 0) (drop 0 image)))) s r ys b p
-      → Leaves (on_image (stage size used image buffer page) (does size (cut (view image) 0 size))) size s (sized size r) i b p
-  on_image_law does used buffer page ys {s} (Some k) {i} {b} {p} e l =
-      let m = part_as (λ v n. left.Leaves (does n v) s (Some k) ys b p) image 0 size size (omega arith) fits l in
-      record { size = refl; good = m.good; image = e ∙ ap (paste (view image) 0 size) m.image; buffer = m.buffer; page = m.page }
-  on_image_law does used buffer page ys {s} None {i} {b} {p} e l =
-      let m = part_as (λ v n. left.Leaves (does n v) s None ys b p) image 0 size size (omega arith) fits l in
-      record { size = refl; good = m.good; image = e ∙ ap (paste (view image) 0 size) m.image; buffer = m.buffer; page = m.page }
+  pub on_image_law : (does : ℕ → Bytes → Left) (used : ℕ) (buffer page ys : List ℕ) {s : Sheet} {r : Result (Unit {0}) BadLine} {told : Result ℕ BadLine} {k : Ink} {i b p : List ℕ}
+      → view i ≡ paste (view image) 0 size (view ys) → size_left size told ≡ size → is_ok told ≡ is_ok r
+      → left.Leaves (does (length (take (size - 0) (drop 0 image))) (view (take (size - 0) (drop 0 image)))) s r k ys b p
+      → Leaves (on_image (stage size used image buffer page) (does size (cut (view image) 0 size))) size s told k i b p
+  on_image_law does used buffer page ys {s} {r} {told} {k} {i} {b} {p} e kept same l =
+      let m = part_as (λ v n. left.Leaves (does n v) s r k ys b p) image 0 size size (omega arith) fits l in
+      record { size = kept; good = same ∙ m.good; image = e ∙ ap (paste (view image) 0 size) m.image; buffer = m.buffer; page = m.page }
 
   -- what only looks gives the same bytes back
   pub looked_back : view image ≡ paste (view image) 0 size (view (take (size - 0) (drop 0 image)))
@@ -93,8 +86,8 @@ module _ (image : List ℕ) (size : ℕ) (fits : size ≤ length image) where
   changed_back ys e = let d : size - 0 ≡ size = omega arith in front_back image ys size fits (e ∙ length_part image 0 (size - 0) (omega arith) ∙ d)
 
 -- A command by its name.
-pub obeyed_by : (r : Rooms) (t : Stage) (f : Fields) {k j : Command} {had : ℕ} {s : Sheet} {told : Option Told} {i b p : List ℕ} → k ≡ j → Leaves (obeyed r j t f) had s told i b p
-    → Leaves (obeyed r k t f) had s told i b p
+pub obeyed_by : (r : Rooms) (t : Stage) (f : Fields) {k j : Command} {had : ℕ} {s : Sheet} {told : Result ℕ BadLine} {ink : Ink} {i b p : List ℕ} → k ≡ j → Leaves (obeyed r j t f) had s told ink i b p
+    → Leaves (obeyed r k t f) had s told ink i b p
 obeyed_by r t f e l = leaves_as (ap (λ k. obeyed r k t f) e) l
 
 -- What a stage says of the buffer and the page says nothing to a command with its fields.
@@ -125,11 +118,11 @@ module _ (line image buffer page : List ℕ) (size used : ℕ) (short : length l
   unfolding commanded answered
   commanded_bad h = rw (le-leb (length line) 4096 short, ends false h, commanded, answered) (ap (refused (stage size used image buffer page)) (sym taken.buffer))
 
-  pub commanded_good : (c : Command) (told : Option Told) (s : Sheet) (i b' p : List ℕ) → good ≡ true → c ≡ command_of (view line) (length line) → length b ≡ length buffer
-      → Leaves (obeyed (rooms image b page) c (stage size used image b page) (held vs texts b)) size s told i b' p
-      → Leaves (commanded (rooms image buffer page) (view line) (length line) (stage size used image buffer page)) size s told i b' p
+  pub commanded_good : (c : Command) (told : Result ℕ BadLine) (ink : Ink) (s : Sheet) (i b' p : List ℕ) → good ≡ true → c ≡ command_of (view line) (length line) → length b ≡ length buffer
+      → Leaves (obeyed (rooms image b page) c (stage size used image b page) (held vs texts b)) size s told ink i b' p
+      → Leaves (commanded (rooms image buffer page) (view line) (length line) (stage size used image buffer page)) size s told ink i b' p
   unfolding commanded answered
-  commanded_good c told s i b' p h e n l =
+  commanded_good c told ink s i b' p h e n l =
       rw (le-leb (length line) 4096 short, ends true h, commanded, answered)
       (rw (← taken.values, ← taken.room, ← taken.buffer, ← e, ← n, obeyed_same (rooms image b page) c (held vs texts b) size used used image buffer b page page) l)
 
@@ -155,9 +148,9 @@ module _ (r : Rooms) (s : Bytes) (n x : ℕ) (t : Stage) where
   played_by size told i b p h e f g k = rw (← h, ap (λ u. u.at) k.same, ap (λ u. u.bytes) k.same, e, f, g, played)
 
 -- A line that is no comment: a good one, and a bad one.
-module _ (line image buffer page : List ℕ) (x size used : ℕ) (ink : Ink) (r : Option Told) (i b p : List ℕ) (loud : false ≡ is_silent (view line) (length line))
+module _ (line image buffer page : List ℕ) (x size used : ℕ) (ink : Ink) (r : Result ℕ BadLine) (k : Ink) (i b p : List ℕ) (loud : false ≡ is_silent (view line) (length line))
     (blank : ink ≡ record { skip = 0; at = ready used })
-    (l : Leaves (commanded (rooms image buffer page) (view line) (length line) (stage size ink.at image buffer page)) size (sheet ink page) r i b p) where
+    (l : Leaves (commanded (rooms image buffer page) (view line) (length line) (stage size ink.at image buffer page)) size (sheet ink page) r k i b p) where
   does : After
   does = commanded (rooms image buffer page) (view line) (length line) (stage size used image buffer page)
 
@@ -171,24 +164,24 @@ module _ (line image buffer page : List ℕ) (x size used : ℕ) (ink : Ink) (r 
   ended : (told : Ink) (p' : List ℕ) → Prints (printed does x) (page_of (rooms image buffer page) (stage size used image buffer page)) (sheet told p')
       → stage (size_left size r) told.at i b p' ≡ played (rooms image buffer page) (view line) (length line) x (stage size used image buffer page)
   unfolding does
-  ended told p' k =
+  ended told p' w =
       played_by (rooms image buffer page) (view line) (length line) x (stage size used image buffer page) (size_left size r) told i b p' loud (l.size ∙ ap (λ u. u.size) same)
       (l.image ∙ ap (λ u. u.image) same)
       (l.buffer ∙ ap (λ u. u.buffer) same)
-      k
+      w
 
-  pub line_good : (t : Told) → r ≡ Some t → stage t.size t.ink.at i b p ≡ played (rooms image buffer page) (view line) (length line) x (stage size used image buffer page)
+  pub line_good : (n : ℕ) → r ≡ Ok n → stage n k.at i b p ≡ played (rooms image buffer page) (view line) (length line) x (stage size used image buffer page)
   unfolding printed
-  line_good t h =
-      let e : does.good ≡ true = sym (l.good ∙ ap (λ u. u.good) same) ∙ ap is_some h in
-      rw h at (ended t.ink p (rw (e, printed) (rw (same, fresh) at (rw h at l.page))))
+  line_good n h =
+      let e : does.good ≡ true = sym (l.good ∙ ap (λ u. u.good) same) ∙ ap is_ok h in
+      rw h at (ended k p (rw (e, printed) (rw (same, fresh) at l.page)))
 
-  pub line_bad : (told : Ink) (p' : List ℕ) → r ≡ None → Prints (bad_line x) (sheet ink p) (sheet told p')
+  pub line_bad : (e : BadLine) (told : Ink) (p' : List ℕ) → r ≡ Err e → Prints (bad_line x) (sheet k p) (sheet told p')
       → stage size told.at i b p' ≡ played (rooms image buffer page) (view line) (length line) x (stage size used image buffer page)
   unfolding printed
-  line_bad told p' h k =
-      let e : does.good ≡ false = sym (l.good ∙ ap (λ u. u.good) same) ∙ ap is_some h in
-      rw h at (ended told p' (rw (e, printed) (rw (same, fresh) at (rw h at l.page) then k)))
+  line_bad e told p' h w =
+      let f : does.good ≡ false = sym (l.good ∙ ap (λ u. u.good) same) ∙ ap is_ok h in
+      rw h at (ended told p' (rw (f, printed) (rw (same, fresh) at l.page then w)))
 
 -- The lines from a place on, which x lines precede: none, the last, and one that others follow.
 module _ (r : Rooms) (s : Bytes) (n : ℕ) where

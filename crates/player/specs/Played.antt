@@ -1,7 +1,7 @@
 -- A script played line by line, as docs/REPLAY.md has it. What is printed goes on a page, which is written out and used again from its start when
 -- it has no room for a line.
-use Rattle.std.specs.Prelude.{ℕ, zero, suc, ◌+◌, ◌-◌, ◌*◌, ◌≡◌, List, [], ◌++◌, Bool, true, false, Option, Some, None, leb, ltb, eqb, length}
-use Rattle.std.specs.Option.{is_some}
+use Rattle.std.specs.Prelude.{ℕ, zero, suc, ◌+◌, ◌-◌, ◌*◌, ◌≡◌, List, [], ◌++◌, Bool, true, false, Result, Ok, Err, leb, ltb, eqb, length}
+use Rattle.std.specs.Result.{is_ok}
 use Rattle.model.specs.Bytes.{Bytes, view, paste, zeros, clear, ◌and◌, ◌or◌}
 use Rattle.model.specs.Catalog.{newline}
 use Rattle.ink.specs.Ink.{Sheet, sheet, emit, Prints}
@@ -14,7 +14,7 @@ use Rattle.lines.specs.Commands.{command_of, asked, unplaced, cut}
 use Rattle.lines.specs.Left.{Left}
 use Rattle.looks.specs.Looks.{looked}
 use Rattle.changes.specs.Changes.{changed}
-use Rattle.player.specs.declared.After.{After as Told}
+use Rattle.lines.specs.declared.BadLine.{BadLine}
 
 -- "A line of more than 4,096 bytes [..] is bad"; no line that is printed is longer either.
 abbrev pub line_most : ℕ
@@ -138,26 +138,23 @@ pub record Holds (t : Stage) (i b p : List ℕ) : Type 0 where
 abbrev pub stage : ℕ → ℕ → List ℕ → List ℕ → List ℕ → Stage
 stage size used i b p = record { size = size; image = view i; buffer = view b; page = view p; used = used }
 
--- The image's length and the ink behind what a command printed: where its line is bad it answers none, and they are those before.
-abbrev pub size_left : ℕ → Option Told → ℕ
-size_left had (Some r) = r.size
-size_left had None = had
+-- The image's length behind a command: where its line is bad it answers none, and the length is the one before.
+abbrev pub size_left : ℕ → Result ℕ BadLine → ℕ
+size_left had (Ok n) = n
+size_left had (Err e) = had
 
-abbrev pub ink_left : Sheet → Option Told → Ink
-ink_left s (Some r) = r.ink
-ink_left s None = record { skip = s.skip; at = s.at }
-
--- A command that had an image of `had` bytes and the page s left this: its answer, the image, the buffer and the page.
-pub record Leaves (o : After) (had : ℕ) (s : Sheet) (r : Option Told) (i b p : List ℕ) : Type 0 where
+-- A command that had an image of `had` bytes and the page s left this: its answer, the ink, the image, the buffer and the page. Where its line is
+-- bad the text is empty, and ink and page are those before.
+pub record Leaves (o : After) (had : ℕ) (s : Sheet) (r : Result ℕ BadLine) (k : Ink) (i b p : List ℕ) : Type 0 where
   pub size : size_left had r ≡ o.size
-  pub good : is_some r ≡ o.good
+  pub good : is_ok r ≡ o.good
   pub image : view i ≡ o.image
   pub buffer : view b ≡ o.buffer
-  pub page : Prints o.text s (sheet (ink_left s r) p)
+  pub page : Prints o.text s (sheet k p)
 
 -- A new image was asked for, of so many bytes: of a room v of `room` bytes, whose image had `had`, this is left.
-pub record Renews (room wanted had : ℕ) (v : Bytes) (s : Sheet) (r : Option Told) (i p : List ℕ) : Type 0 where
-  pub good : is_some r ≡ leb wanted room
+pub record Renews (room wanted had : ℕ) (v : Bytes) (s : Sheet) (r : Result ℕ BadLine) (k : Ink) (i p : List ℕ) : Type 0 where
+  pub good : is_ok r ≡ leb wanted room
   pub size : size_left had r ≡ elim (leb wanted room) [ true ↦ wanted | false ↦ had ]
   pub image : view i ≡ elim (leb wanted room) [ true ↦ clear v 0 wanted | false ↦ v ]
-  pub page : Prints (elim (leb wanted room) [ true ↦ ok_line [] [] | false ↦ [] ]) s (sheet (ink_left s r) p)
+  pub page : Prints (elim (leb wanted room) [ true ↦ ok_line [] [] | false ↦ [] ]) s (sheet k p)

@@ -10,7 +10,7 @@ ghost use Rattle.lines.specs.Commands.{Fitting, held};
 ghost use Rattle.player.specs.Played.{rooms, stage, Renews, obeyed, commanded, is_silent, ready as readyAt, played, played_all, staged, size_left, Leaves, Holds};
 
 use ink::Ink;
-use lines::{Change, Command, Look};
+use lines::{BadLine, Change, Command, Look};
 use script::{FIELDS, ROOM};
 use std::io;
 use std::io::Write;
@@ -39,35 +39,34 @@ pub struct Output<W> {
 }
 
 // The image's length, and the bytes of the page in use.
+// The image and the page are rooms of a fixed size: there is no heap, and the image grows within its room.
 #[derive(Clone, Copy)]
 struct State {
     size: usize,
     used: usize,
 }
 
-// The image's length and the page after a command. A bad line has none: it leaves both.
-#[derive(Clone, Copy)]
-struct After {
+// A new image of so many zeros, where its room has them. This and what follows answers the image's length after a command; a bad line leaves it.
+fn renew(
+    wanted: usize,
+    image: &mut [u8],
+    page: &mut [u8],
+    ink: &mut Ink,
     size: usize,
-    ink: Ink,
-}
-
-// A new image of so many zeros, where its room has them.
-fn renew(wanted: usize, image: &mut [u8], page: &mut [u8], ink: Ink, size: usize) -> Option<After>
+) -> Result<usize, BadLine>
     requires { size ≤ length image.old }
-    ensures renews { Renews (length image.old) wanted size (view image.old) (sheet ink page.old) result image.new page.new }
+    ensures renews { Renews (length image.old) wanted size (view image.old) (sheet ink.old page.old) result ink.new image.new page.new }
     ensures size_in_bounds { size_left size result ≤ length image.old }
 {
     if image.len() < wanted {
-        return None;
+        return Err(BadLine);
     }
     store::clear_run(image, 0, wanted);
-    Some(After {
-        size: wanted,
-        ink: replies::say_ok(page, ink, b"", &[]),
-    })
+    replies::say_ok(page, ink, b"", &[]);
+    Ok(wanted)
 }
 
+// Not one function with the next: here the image is lent to be read, there to be changed.
 fn look(
     look: Look,
     image: &[u8],
@@ -75,15 +74,15 @@ fn look(
     room: &[u8],
     buffer: &mut [u8],
     page: &mut [u8],
-    ink: Ink,
+    ink: &mut Ink,
     size: usize,
-) -> Option<After>
+) -> Result<usize, BadLine>
     requires { (Fitting (command.Look look) (length buffer.old) values.now) × (length room.now ≡ 256) × (size ≤ length image.now) }
-    ensures leaves { Leaves (obeyed (rooms image.now buffer.old page.old) (command.Look look) (stage size ink.at image.now buffer.old page.old) (held values.now room.now buffer.old)) size (sheet ink page.old) result image.now buffer.new page.new }
+    ensures leaves { Leaves (obeyed (rooms image.now buffer.old page.old) (command.Look look) (stage size ink.old.at image.now buffer.old page.old) (held values.now room.now buffer.old)) size (sheet ink.old page.old) result ink.new image.now buffer.new page.new }
     ensures size_value { size_left size result ≡ size }
 {
-    let said = looks::run(look, &image[0..size], values, room, buffer, page, ink)?;
-    Some(After { size, ink: said })
+    looks::run(look, &image[0..size], values, room, buffer, page, ink)?;
+    Ok(size)
 }
 
 fn change(
@@ -93,18 +92,19 @@ fn change(
     room: &[u8],
     buffer: &mut [u8],
     page: &mut [u8],
-    ink: Ink,
+    ink: &mut Ink,
     size: usize,
-) -> Option<After>
+) -> Result<usize, BadLine>
     requires { (Fitting (command.Change change) (length buffer.old) values.now) × (length room.now ≡ 256) × (size ≤ length image.old) }
-    ensures leaves { Leaves (obeyed (rooms image.old buffer.old page.old) (command.Change change) (stage size ink.at image.old buffer.old page.old) (held values.now room.now buffer.old)) size (sheet ink page.old) result image.new buffer.new page.new }
+    ensures leaves { Leaves (obeyed (rooms image.old buffer.old page.old) (command.Change change) (stage size ink.old.at image.old buffer.old page.old) (held values.now room.now buffer.old)) size (sheet ink.old page.old) result ink.new image.new buffer.new page.new }
     ensures size_value { size_left size result ≡ size }
 {
-    let said = changes::run(change, &mut image[0..size], values, room, buffer, page, ink)?;
-    Some(After { size, ink: said })
+    changes::run(change, &mut image[0..size], values, room, buffer, page, ink)?;
+    Ok(size)
 }
 
 // Does a command whose fields are good.
+// A match: each command lends other parts.
 fn obey(
     command: Command,
     image: &mut [u8],
@@ -112,11 +112,11 @@ fn obey(
     room: &[u8],
     buffer: &mut [u8],
     page: &mut [u8],
-    ink: Ink,
+    ink: &mut Ink,
     size: usize,
-) -> Option<After>
+) -> Result<usize, BadLine>
     requires { (Fitting command (length buffer.old) values.now) × (length room.now ≡ 256) × (size ≤ length image.old) }
-    ensures leaves { Leaves (obeyed (rooms image.old buffer.old page.old) command (stage size ink.at image.old buffer.old page.old) (held values.now room.now buffer.old)) size (sheet ink page.old) result image.new buffer.new page.new }
+    ensures leaves { Leaves (obeyed (rooms image.old buffer.old page.old) command (stage size ink.old.at image.old buffer.old page.old) (held values.now room.now buffer.old)) size (sheet ink.old page.old) result ink.new image.new buffer.new page.new }
     ensures size_in_bounds { size_left size result ≤ length image.old }
 {
     match command {
@@ -124,7 +124,7 @@ fn obey(
         Command::Bytes => renew(values[0], image, page, ink, size),
         Command::Look(asked) => look(asked, image, values, room, buffer, page, ink, size),
         Command::Change(asked) => change(asked, image, values, room, buffer, page, ink, size),
-        Command::Unknown => None,
+        Command::Unknown => Err(BadLine),
     }
 }
 
@@ -133,25 +133,26 @@ fn command(
     image: &mut [u8],
     buffer: &mut [u8],
     page: &mut [u8],
-    ink: Ink,
+    ink: &mut Ink,
     size: usize,
-) -> Option<After>
+) -> Result<usize, BadLine>
     requires { size ≤ length image.old }
-    ensures leaves { Leaves (commanded (rooms image.old buffer.old page.old) (view line.now) (length line.now) (stage size ink.at image.old buffer.old page.old)) size (sheet ink page.old) result image.new buffer.new page.new }
+    ensures leaves { Leaves (commanded (rooms image.old buffer.old page.old) (view line.now) (length line.now) (stage size ink.old.at image.old buffer.old page.old)) size (sheet ink.old page.old) result ink.new image.new buffer.new page.new }
     ensures size_in_bounds { size_left size result ≤ length image.old }
 {
     let mut values = [0usize; FIELDS];
     let mut room = [0u8; ROOM];
     if LONGEST_LINE < line.len() {
-        return None;
+        return Err(BadLine);
     }
     let Ok(asked) = lines::read_line(line, &mut values, &mut room, buffer) else {
-        return None;
+        return Err(BadLine);
     };
     obey(asked, image, &values, &room, buffer, page, ink, size)
 }
 
 // Does a line print nothing: is it empty, or a comment?
+#[tactic(auto, using(crate::proofs::PlayedLaws::silent_empty, crate::proofs::PlayedLaws::silent_long, crate::proofs::PlayedLaws::silent_byte))]
 fn is_silent(line: &[u8]) -> bool
     ensures { result ≡ is_silent (view line.now) (length line.now) }
 {
@@ -173,6 +174,7 @@ fn flush<W: Write>(page: &[u8], used: usize, output: &mut Output<W>) {
 }
 
 // A page with room for a line: the one in use, or the same written out.
+#[tactic(auto, using(crate::proofs::PlayedLaws::ready_same, crate::proofs::PlayedLaws::ready_empty))]
 fn ready<W: Write>(page: &[u8], used: usize, output: &mut Output<W>) -> Ink
     ensures { result ≡ record { skip = 0; at = readyAt used } }
 {
@@ -199,16 +201,16 @@ fn play_line<W: Write>(
     if is_silent(line) {
         return state;
     }
-    let ink = ready(page, state.used, output);
-    match command(line, image, buffer, page, ink, state.size) {
-        Some(after) => State {
-            size: after.size,
-            used: after.ink.at,
-        },
-        None => State {
-            size: state.size,
-            used: replies::say_bad_line(page, ink, number).at,
-        },
+    let mut ink = ready(page, state.used, output);
+    match command(line, image, buffer, page, &mut ink, state.size) {
+        Ok(size) => State { size, used: ink.at },
+        Err(BadLine) => {
+            replies::say_bad_line(page, &mut ink, number);
+            State {
+                size: state.size,
+                used: ink.at,
+            }
+        }
     }
 }
 
@@ -241,6 +243,7 @@ fn play_lines<W: Write>(
 
 // Plays a script on an image of its own, which is empty at the start; a script that is too large does nothing. The rooms end as is said here whether
 // or not a write failed.
+#[tactic(auto, using(crate::proofs::PlayedLaws::staged_large, crate::proofs::PlayedLaws::staged_played))]
 pub fn play<W: Write>(
     text: &[u8],
     image: &mut [u8],

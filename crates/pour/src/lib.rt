@@ -1,5 +1,5 @@
 // Data laid in a file, file block by file block: what is missing is counted first, then taken, and the data are copied.
-// A file has a height (0 seedling, 1 sapling, 2 tree) and a key. Document 01, "Growing".
+// A file has a height (0 seedling, 1 sapling, 2 tree), a number since code and definitions count by it, and a key. Document 01, "Growing".
 #![tactic(auto)]
 
 ghost use Rattle.std.specs.Prelude.{◌≡◌, ◌+◌, ◌-◌, ◌*◌, ◌/◌, ◌%◌, ◌^◌, ◌≤◌, ◌<◌, length};
@@ -34,6 +34,7 @@ fn breadth(height: usize) -> usize
 }
 
 // Whether file block p is missing.
+// The image is lent with its number of blocks: a struct of both would be two, one for `&` and one for `&mut`.
 #[tactic(auto, unfolding(model::specs::Grow::lacks_block))]
 fn lacks_block(img: &[u8], n: usize, height: usize, key: usize, p: usize) -> bool
     requires { (n ≤ 65535) × (length img.now ≡ n * 512) × (height < 3) × Deep n (view img.now) height key }
@@ -77,6 +78,7 @@ fn lacks_indexes(img: &[u8], height: usize, key: usize, i: usize, end: usize) ->
 }
 
 // The blocks that a file whose height becomes the goal needs for its file blocks from p to the end.
+// Seven parameters: the height and the key of a file and its image stay apart, as in the contracts of `file`.
 #[tactic(auto, unfolding(model::specs::Grow::need))]
 pub fn need(
     img: &[u8],

@@ -1,13 +1,12 @@
 -- What the branches of the code answer: the rows of read from $4B on.
 use Rattle.std.specs.Prelude.{Ok, Err}
-use Prim.Native.Nat.{ℕ, ◌/◌, ◌%◌, ◌≤◌, ◌<◌}
+use Prim.Native.Nat.{ℕ, ◌≤◌, ◌<◌}
 use mathlib.Core.Path.{◌≡◌, refl, sym, ap, ◌∙◌}
 use mathlib.Core.List.{List, [], ◌∷◌}
 use mathlib.Core.Bool.{true, false, not}
 use lib.Dec.{leb, ltb, eqb}
 use lib.ListN.{length}
-use native.Mathlib.Omega.{arith}
-use borrow.Author.Tests.{eq-eqb, ne_eqb, lt-ltb, le-ltb, le-leb, leb-true, eqb-true}
+use borrow.Author.Tests.{eq-eqb, lt-ltb, le-ltb, le-leb, leb-true, eqb-true}
 use Rattle.model.specs.Bytes.{Bytes, view, paste, from, ◌and◌}
 use Rattle.model.specs.File.{file_byte}
 use Rattle.model.specs.Kinds.{key_of}
@@ -21,14 +20,6 @@ use Rattle.model.proofs.RefusalLaws.{settle_refused, settle_accepted, number_ref
 use Rattle.claims.proofs.TestLaws.{and_true, and_false}
 use Rattle.opening.specs.Sorts.{is_folder, height_of}
 use Rattle.read.specs.Reading.{entry_read_number, entry_count, entry_read}
-
-allowed : (a : ℕ) → (a % 2 ≡ 0 → ⊥) → not (allows a read_bit) ≡ false
-unfolding allows
-allowed a h = ap not (eq-eqb (a / 1 % 2) 1 (omega arith))
-
-barred : (a : ℕ) → a % 2 ≡ 0 → not (allows a read_bit) ≡ true
-unfolding allows
-barred a h = ap not (ne_eqb (a / 1 % 2) 1 (λ e. omega arith))
 
 module _ (x : Entry) (pos size : ℕ) where
   abbrev end_row : Row
@@ -44,23 +35,23 @@ module _ (x : Entry) (pos size : ℕ) where
   unfolding entry_read_number
   past_folder e = first_passes (row (is_folder x.kind) 0x4B) lock_rows e
 
-  pub number_locked : is_folder x.kind ≡ false → x.access % 2 ≡ 0 → entry_read_number x pos size ≡ 0x4E
-  number_locked e h = past_folder e ∙ first_applies (row (not (allows x.access read_bit)) 0x4E) far_rows (barred x.access h)
+  pub number_locked : is_folder x.kind ≡ false → allows x.access read_bit ≡ false → entry_read_number x pos size ≡ 0x4E
+  number_locked e h = past_folder e ∙ first_applies (row (not (allows x.access read_bit)) 0x4E) far_rows (ap not h)
 
-  past_lock : is_folder x.kind ≡ false → (x.access % 2 ≡ 0 → ⊥) → entry_read_number x pos size ≡ first far_rows
-  past_lock e h = past_folder e ∙ first_passes (row (not (allows x.access read_bit)) 0x4E) far_rows (allowed x.access h)
+  past_lock : is_folder x.kind ≡ false → allows x.access read_bit ≡ true → entry_read_number x pos size ≡ first far_rows
+  past_lock e h = past_folder e ∙ first_passes (row (not (allows x.access read_bit)) 0x4E) far_rows (ap not h)
 
-  pub number_far : is_folder x.kind ≡ false → (x.access % 2 ≡ 0 → ⊥) → x.eof < pos → entry_read_number x pos size ≡ 0x4D
+  pub number_far : is_folder x.kind ≡ false → allows x.access read_bit ≡ true → x.eof < pos → entry_read_number x pos size ≡ 0x4D
   number_far e h f = past_lock e h ∙ first_applies (row (ltb x.eof pos) 0x4D) (end_row ∷ []) (lt-ltb x.eof pos f)
 
-  past_far : is_folder x.kind ≡ false → (x.access % 2 ≡ 0 → ⊥) → pos ≤ x.eof → entry_read_number x pos size ≡ first (end_row ∷ [])
+  past_far : is_folder x.kind ≡ false → allows x.access read_bit ≡ true → pos ≤ x.eof → entry_read_number x pos size ≡ first (end_row ∷ [])
   past_far e h f = past_lock e h ∙ first_passes (row (ltb x.eof pos) 0x4D) (end_row ∷ []) (le-ltb x.eof pos f)
 
-  pub number_end : is_folder x.kind ≡ false → (x.access % 2 ≡ 0 → ⊥) → pos ≤ x.eof → 1 ≤ size → pos ≡ x.eof → entry_read_number x pos size ≡ 0x4C
+  pub number_end : is_folder x.kind ≡ false → allows x.access read_bit ≡ true → pos ≤ x.eof → 1 ≤ size → pos ≡ x.eof → entry_read_number x pos size ≡ 0x4C
   number_end e h f s p =
       past_far e h f ∙ first_applies end_row [] ((and_true (leb 1 size) (eqb pos x.eof)).1 (le-leb 1 size s, eq-eqb pos x.eof p))
 
-  pub number_none : is_folder x.kind ≡ false → (x.access % 2 ≡ 0 → ⊥) → pos ≤ x.eof → (1 ≤ size → pos ≡ x.eof → ⊥) → entry_read_number x pos size ≡ 0
+  pub number_none : is_folder x.kind ≡ false → allows x.access read_bit ≡ true → pos ≤ x.eof → (1 ≤ size → pos ≡ x.eof → ⊥) → entry_read_number x pos size ≡ 0
   unfolding first
   number_none e h f s =
       past_far e h f ∙ first_passes end_row [] (and_false (leb 1 size) (eqb pos x.eof) (λ a b. s (leb-true 1 size a) (eqb-true pos x.eof b)))

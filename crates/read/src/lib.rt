@@ -13,6 +13,7 @@ use model::{Entry, Refusal};
 use opening::Opened;
 
 // $4B, $4E, $4D and $4C; then the bytes of the file from a position on, as many as the buffer takes.
+// The image is lent with its number of blocks: a struct of both would be two, one for `&` and one for `&mut`.
 fn read_file(
     img: &[u8],
     n: usize,
@@ -23,12 +24,10 @@ fn read_file(
     requires { (n ≤ 65535) × (length img.now ≡ n * 512) × (is_folder entry.kind ≡ false → Readable n (view img.now) entry) }
     ensures { Reads (entry_read (view img.now) entry position (view buffer.old) (length buffer.old)) (length buffer.old) result buffer.new }
 {
-    let kind = entry.kind;
-    let height = opening::height_of(kind);
-    if height == 3 {
+    let Some(height) = opening::height_of(entry.kind) else {
         return Err(Refusal::BadKind);
-    }
-    if entry.access % 2 == 0 {
+    };
+    if !model::allows(entry.access, model::READ) {
         return Err(Refusal::Locked);
     }
     let eof = entry.eof as usize;
@@ -40,15 +39,8 @@ fn read_file(
         return Err(Refusal::EndOfFile);
     }
     let count = store::least(size, eof - position);
-    file::read_bytes(
-        img,
-        n,
-        height,
-        model::key_of(kind) as usize,
-        position,
-        buffer,
-        count,
-    );
+    let key = model::key_of(entry.kind) as usize;
+    file::read_bytes(img, n, height, key, position, buffer, count);
     Ok(count)
 }
 
@@ -58,6 +50,6 @@ pub fn read(img: &[u8], path: &[u8], position: usize, buffer: &mut [u8]) -> Resu
 {
     match opening::opened_by(img, path)? {
         Opened::Volume(_) => Err(Refusal::BadKind),
-        Opened::Entry(n, _, _, entry) => read_file(img, n, entry, position, buffer),
+        Opened::Entry { blocks, entry, .. } => read_file(img, blocks, entry, position, buffer),
     }
 }

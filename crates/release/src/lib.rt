@@ -11,6 +11,8 @@ ghost use Rattle.release.specs.Loose.{Whole, Loose, tree, below};
 const MAP_PLACE: usize = 6;
 
 // Gives back all that lies below the pointers of the block `key` from `first` on, which lead to blocks of the height `height`.
+// The image that changes stays beside its number of blocks: in a struct each contract would have to say that it is the same image still.
+// A height is a number, as in `file`.
 #[cycle(give_limbs_give_tree)]
 pub fn give_limbs(img: &mut [u8], n: usize, height: usize, key: usize, first: usize)
     requires { Whole n img.old × (height < 2) × (first ≤ 256) × Loose n (key ∷ below (view img.old) height key first) }

@@ -16,6 +16,8 @@ use Rattle.model.specs.Refusals.{refusal_number, Row, row, first, settle}
 use Rattle.model.specs.Calls.{total, target, home, spot, not_prodos, not_sound, allows, rename_bit, backed_up, nothing}
 use Rattle.model.specs.Rename.{named, header_named, renamed, is_other, name_taken, rename_number, rename}
 use Rattle.model.specs.Answers.{Does}
+use Rattle.model.specs.declared.Kind.{Kind}
+use Rattle.model.specs.declared.Kind.TheVariants.{Seedling, Sapling, Tree, Directory}
 use Rattle.model.specs.declared.Place.{Place}
 use Rattle.model.specs.declared.Entry.{Entry}
 use Rattle.model.specs.declared.Refusal.{Refusal}
@@ -66,6 +68,14 @@ pub found_other : (v : Bytes) (name : List ℕ) (h : Home) (l : Place) → Count
     → r ≡ found_in v name (listed v h.key h.used) → b ≡ is_other_place r l
     → is_other (place_number l) (seek v (view name) (part 0 (length name)) (listed v h.key h.used)) ≡ b
 found_other v name h l c r b e f = sym (f ∙ ap (λ x. is_other_place x l) e ∙ other_place v _ l c)
+
+-- a data file has no header
+pub headless : (K : Kind) (v q : Bytes) (j : ℕ) → ((k : ℕ) → K ≡ Directory k → ⊥) → v ≡ named_in K v q j
+unfolding named_in
+headless (Seedling k) v q j h = refl
+headless (Sapling k) v q j h = refl
+headless (Tree k) v q j h = refl
+headless (Directory k) v q j h = absurd (h k refl)
 
 -- the header of a directory, by the kind that was decoded
 named_sort : (K : Sort) (k : ℕ) (w q : Bytes) (j : ℕ) → is_active K ≡ true → (K ≡ improper → ⊥) → named_in (kind_of K k) w q j ≡ header_named K w k q j
@@ -205,6 +215,11 @@ module _ (len : ℕ) (v p : Bytes) (k : ℕ) (q : Bytes) (j : ℕ) where
             entry_held len v p k d s f u off,
             ap (λ m. settle m nothing v nothing (renamed v (spot (target v p k)) q j)) (rename_number_law (Ok (opened.Entry n h l x)) e) ∙ entry_as d s f u off,
           )
+
+-- what the code opened
+pub opened_way : {o r : Result Opened Refusal} (a : Bool) (len : ℕ) (v p : Bytes) (k : ℕ) (q : Bytes) (j : ℕ) → a ≡ proper_name q 0 j
+    → r ≡ opened_if a BadPath len v p k → r ≡ o → opened_if (proper_name q 0 j) BadPath len v p k ≡ o
+opened_way a len v p k q j f g e = ap (λ f. opened_if f BadPath len v p k) (sym f) ∙ sym g ∙ e
 
 pub rename_does_refused : (l : List ℕ) (p : Bytes) (k : ℕ) (q : Bytes) (j : ℕ) (r : Refusal)
     → opened_if (proper_name q 0 j) BadPath (length l) (view l) p k ≡ Err r

@@ -3,7 +3,6 @@
 
 ghost use Rattle.std.specs.Prelude.{◌≡◌, ◌+◌, ◌≤◌, length};
 ghost use Rattle.model.specs.Bytes.{view};
-ghost use Rattle.model.specs.Calls.{allows, rename_bit};
 ghost use Rattle.model.specs.Rename.{named, rename as renameCall};
 ghost use Rattle.model.specs.Answers.{Does};
 ghost use Rattle.rename.specs.Renamed.{is_other_place, named_in, Header, Held, volume_renamed, entry_renamed};
@@ -17,13 +16,6 @@ const VOLUME_HEADER: usize = 1028;
 
 // Where a slot has its access.
 const ACCESS: usize = 0x1E;
-
-// Whether an access allows a rename.
-fn may_rename(access: u8) -> bool
-    ensures { result ≡ allows access rename_bit }
-{
-    access / 0x40 % 2 == 1
-}
 
 // Whether an entry was found that stands elsewhere.
 fn is_other(found: Option<(Place, Entry)>, place: Place) -> bool
@@ -50,21 +42,9 @@ fn put_names(img: &mut [u8], start: usize, kind: Kind, name: &[u8])
     ensures { view img.new ≡ named_in kind (named (view img.old) start (view name.now) (length name.now)) (view name.now) (length name.now) }
 {
     put_new_name(img, start, name);
-    match kind {
-        Kind::Seedling(_) => {
-            return;
-        }
-        Kind::Sapling(_) => {
-            return;
-        }
-        Kind::Tree(_) => {
-            return;
-        }
-        Kind::Directory(key) => {
-            let header = key as usize * 512 + 4;
-            put_new_name(img, header, name);
-            return;
-        }
+    if let Kind::Directory(key) = kind {
+        let header = key as usize * 512 + 4;
+        put_new_name(img, header, name);
     }
 }
 
@@ -73,7 +53,7 @@ fn rename_volume(img: &mut [u8], name: &[u8]) -> Result<(), Refusal>
     requires { (1536 ≤ length img.old) × (length name.now ≤ 15) }
     ensures { Does (volume_renamed (view img.old) (view name.now) (length name.now)) (length img.old) result img.new }
 {
-    if !may_rename(img[VOLUME_HEADER + ACCESS]) {
+    if !model::allows(img[VOLUME_HEADER + ACCESS], model::RENAME) {
         return Err(Refusal::Locked);
     }
     put_new_name(img, VOLUME_HEADER, name);
@@ -92,20 +72,16 @@ fn rename_entry(
     requires { (length name.now ≤ 15) × Held n (length img.old) (view img.old) home place entry }
     ensures { Does (entry_renamed (view img.old) home place entry (view name.now) (length name.now)) (length img.old) result img.new }
 {
-    let key = home.key as usize;
-    let used = home.used as usize;
-    let found = directory::find_in(img, n, key, used, name);
+    let found = directory::find_in(img, n, home.key as usize, home.used as usize, name);
     if is_other(found, place) {
         return Err(Refusal::Duplicate);
     }
-    let access = entry.access;
-    if !may_rename(access) {
+    if !model::allows(entry.access, model::RENAME) {
         return Err(Refusal::Locked);
     }
     let start = directory::slot_at(place);
-    let kind = entry.kind;
-    put_names(img, start, kind, name);
-    store::put_byte(img, start + ACCESS, entries::backed_up(access));
+    put_names(img, start, entry.kind, name);
+    store::put_byte(img, start + ACCESS, entries::backed_up(entry.access));
     Ok(())
 }
 
@@ -116,6 +92,11 @@ pub fn rename(img: &mut [u8], path: &[u8], name: &[u8]) -> Result<(), Refusal>
     let fit = names::is_proper_name(name);
     match opening::opened_if(img, path, fit, Refusal::BadPath)? {
         Opened::Volume(_) => rename_volume(img, name),
-        Opened::Entry(n, home, place, entry) => rename_entry(img, n, home, place, entry, name),
+        Opened::Entry {
+            blocks,
+            home,
+            place,
+            entry,
+        } => rename_entry(img, blocks, home, place, entry, name),
     }
 }

@@ -1,22 +1,25 @@
 -- A line's parts one by one: fields, hex digits, a digest, a buffer, and which line an answer prints. Assumes nothing.
 use Prim.Native.Nat.{ℕ, suc, ◌+◌, ◌-◌, ◌/◌, ◌%◌, ◌≤◌, ◌<◌}
-use mathlib.Core.Path.{◌≡◌, refl}
+use mathlib.Core.Path.{◌≡◌}
 use mathlib.Core.List.{List, [], ◌∷◌, ◌++◌}
 use native.Mathlib.Omega.{arith}
+use lib.ListN.{length}
 use mir.Syntax.{w32}
 use Rattle.std.specs.Int.{to_be_bytes}
+use Rattle.std.specs.Prelude.{Result, Ok, Err}
 use borrow.Author.Tests.{eq-eqb, ne_eqb, le-leb, lt-leb}
 use Rattle.model.specs.Bytes.{Bytes, view}
 use Rattle.model.specs.Catalog.{space', decimal, hex_byte, refused_line}
+use Rattle.model.specs.Answers.{answer_number}
 use Rattle.model.specs.Refusals.{refusal_number}
 use Rattle.model.specs.declared.Refusal.{Refusal}
 use Rattle.model.proofs.RefusalLaws.{number_refuses}
 use Rattle.replies.specs.Lines.{field_text, fields_text, hex_text, mixed, digest_from, digest, digest_text, buffer_text, reply}
 
 -- A digest of 32 bits is the hex digits of its four bytes.
-pub digest_hex : (h : ℕ) → h < 4294967296 → hex_text (view (to_be_bytes w32 h)) 0 4 ≡ digest_text h
+pub digest_hex : (h : ℕ) (bytes : List ℕ) → bytes ≡ to_be_bytes w32 h → h < 4294967296 → hex_text (view bytes) 0 (length bytes) ≡ digest_text h
 unfolding hex_text digest_text
-digest_hex h l = let e : h / 16777216 % 256 ≡ h / 16777216 = omega arith in rw e
+digest_hex h bytes b l = let e : h / 16777216 % 256 ≡ h / 16777216 = omega arith in rw (b, e)
 
 -- One field.
 module _ (form x : ℕ) where
@@ -73,11 +76,12 @@ module _ (f : Bytes) (k : ℕ) where
   unfolding buffer_text
   buffer_digest l = rw (ne_eqb k 0 (λ e. omega arith), lt-leb k 1024 l, buffer_text)
 
--- What a call prints.
-pub reply_done : (said : List ℕ) → said ≡ reply 0 said
-unfolding reply
-reply_done said = refl
+-- What a call prints, by its answer.
+module _ {A : Type 0} {answer : Result A Refusal} (said : List ℕ) where
+  pub reply_done : {parts : A} → answer ≡ Ok parts → reply (answer_number answer) said ≡ said
+  unfolding reply
+  reply_done e = rw (e, reply)
 
-pub reply_refused : (why : Refusal) (said : List ℕ) → refused_line (refusal_number why) ≡ reply (refusal_number why) said
-unfolding reply
-reply_refused why said = rw (ne_eqb (refusal_number why) 0 (number_refuses why), reply)
+  pub reply_refused : {why : Refusal} → answer ≡ Err why → reply (answer_number answer) said ≡ refused_line (refusal_number why)
+  unfolding reply
+  reply_refused {why} e = rw e (rw (ne_eqb (refusal_number why) 0 (number_refuses why), reply))

@@ -13,45 +13,45 @@ ghost use Rattle.replies.specs.Lines.{mixed as Lines·mixed, digest as Lines·di
 use ink::Ink;
 use model::{Info, Refusal, Space};
 
-const NEWLINE: u8 = 10;
+const NEWLINE: u8 = b'\n';
 
-const SPACE: u8 = 32;
+const SPACE: u8 = b' ';
 
 // A read of more bytes prints a digest in place of the bytes.
 const MOST_SHOWN: usize = 1024;
 
 // A space, and a value in its form: B for two hex digits, any other for a number in decimal.
-fn put_field(page: &mut [u8], ink: Ink, form: u8, value: usize) -> Ink
-    ensures { Prints (field_text form value) (sheet ink page.old) (sheet result page.new) }
+// A form is a byte, as in script.
+#[tactic(auto, using(ink::proofs::InkLaws::emit_append, crate::proofs::LineLaws::field_byte, crate::proofs::LineLaws::field_number), unfolding(ink::specs::Ink::emit))]
+fn put_field(page: &mut [u8], ink: &mut Ink, form: u8, value: usize)
+    ensures { Prints (field_text form value) (sheet ink.old page.old) (sheet ink.new page.new) }
 {
     if form == b'B' {
-        let spaced = ink::emit_byte(page, ink, SPACE);
-        return ink::emit_hex_byte(page, spaced, (value % 256) as u8);
+        ink.byte(page, SPACE);
+        ink.hex_byte(page, (value % 256) as u8);
+    } else {
+        ink.decimal(page, value);
     }
-    ink::emit_decimal(page, ink, value)
 }
 
 // A value for each form.
-fn put_fields(page: &mut [u8], ink: Ink, forms: &[u8], values: &[usize]) -> Ink
+fn put_fields(page: &mut [u8], ink: &mut Ink, forms: &[u8], values: &[usize])
     requires { length forms.now ≤ length values.now }
-    ensures { Prints (fields_text (view forms.now) (view values.now) 0 (length forms.now)) (sheet ink page.old) (sheet result page.new) }
+    ensures { Prints (fields_text (view forms.now) (view values.now) 0 (length forms.now)) (sheet ink.old page.old) (sheet ink.new page.new) }
 {
-    let mut now = ink;
     for (form, value) in forms.iter().zip(values) {
-        now = put_field(page, now, *form, *value);
+        put_field(page, ink, *form, *value);
     }
-    now
 }
 
 // The hex digits of each byte of a run.
-fn put_hex(page: &mut [u8], ink: Ink, run: &[u8]) -> Ink
-    ensures { Prints (hex_text (view run.now) 0 (length run.now)) (sheet ink page.old) (sheet result page.new) }
+#[tactic(auto, using(ink::proofs::InkLaws::emit_append, crate::proofs::LineLaws::hex_next, crate::proofs::LineLaws::hex_end), unfolding(ink::specs::Ink::emit))]
+fn put_hex(page: &mut [u8], ink: &mut Ink, run: &[u8])
+    ensures { Prints (hex_text (view run.now) 0 (length run.now)) (sheet ink.old page.old) (sheet ink.new page.new) }
 {
-    let mut now = ink;
     for byte in run {
-        now = ink::emit_hex_byte(page, now, *byte);
+        ink.hex_byte(page, *byte);
     }
-    now
 }
 
 // One byte more of a digest: exclusive or, then a multiplication modulo 2^32.
@@ -63,6 +63,7 @@ fn mixed(hash: u32, byte: u8) -> u32
 }
 
 // FNV-1a of 32 bits.
+#[tactic(auto, using(crate::proofs::LineLaws::digest_next, crate::proofs::LineLaws::digest_end))]
 fn digest(run: &[u8]) -> u32
     ensures { result ≡ Lines·digest (view run.now) (length run.now) }
 {
@@ -74,40 +75,46 @@ fn digest(run: &[u8]) -> u32
 }
 
 // The digest of a run in eight hex digits.
-fn put_digest(page: &mut [u8], ink: Ink, run: &[u8]) -> Ink
-    ensures { Prints (digest_text (Lines·digest (view run.now) (length run.now))) (sheet ink page.old) (sheet result page.new) }
+#[tactic(auto, using(crate::proofs::LineLaws::digest_hex))]
+fn put_digest(page: &mut [u8], ink: &mut Ink, run: &[u8])
+    ensures { Prints (digest_text (Lines·digest (view run.now) (length run.now))) (sheet ink.old page.old) (sheet ink.new page.new) }
 {
-    put_hex(page, ink, &digest(run).to_be_bytes())
+    put_hex(page, ink, &digest(run).to_be_bytes());
 }
 
 // `OK`, a value for each form, and the end of the line.
-pub fn say_ok(page: &mut [u8], ink: Ink, forms: &[u8], values: &[usize]) -> Ink
+#[tactic(auto, using(ink::proofs::InkLaws::emit_append), unfolding(ink::specs::Ink::emit, crate::specs::Lines::ok_line))]
+pub fn say_ok(page: &mut [u8], ink: &mut Ink, forms: &[u8], values: &[usize])
     requires { length forms.now ≤ length values.now }
-    ensures { Prints (ok_line forms.now values.now) (sheet ink page.old) (sheet result page.new) }
+    ensures { Prints (ok_line forms.now values.now) (sheet ink.old page.old) (sheet ink.new page.new) }
 {
-    let word = ink::emit_run(page, ink, b"OK", 0, 2);
-    let fields = put_fields(page, word, forms, values);
-    ink::emit_byte(page, fields, NEWLINE)
+    ink.run(page, b"OK");
+    put_fields(page, ink, forms, values);
+    ink.byte(page, NEWLINE);
 }
 
-pub fn say_refused(page: &mut [u8], ink: Ink, why: Refusal) -> Ink
-    ensures { Prints (refused_line (refusal_number why)) (sheet ink page.old) (sheet result page.new) }
+#[tactic(auto, using(ink::proofs::InkLaws::emit_append), unfolding(ink::specs::Ink::emit, model::specs::Catalog::refused_line))]
+pub fn say_refused(page: &mut [u8], ink: &mut Ink, why: Refusal)
+    ensures { Prints (refused_line (refusal_number why)) (sheet ink.old page.old) (sheet ink.new page.new) }
 {
-    let word = ink::emit_run(page, ink, b"REFUSED ", 0, 8);
-    let number = ink::emit_hex_byte(page, word, u8::from(why));
-    ink::emit_byte(page, number, NEWLINE)
+    ink.run(page, b"REFUSED ");
+    ink.hex_byte(page, u8::from(why));
+    ink.byte(page, NEWLINE);
 }
 
-pub fn say_bad_line(page: &mut [u8], ink: Ink, number: usize) -> Ink
-    ensures { Prints (bad_line number) (sheet ink page.old) (sheet result page.new) }
+#[tactic(auto, using(ink::proofs::InkLaws::emit_append), unfolding(ink::specs::Ink::emit, crate::specs::Lines::bad_line))]
+pub fn say_bad_line(page: &mut [u8], ink: &mut Ink, number: usize)
+    ensures { Prints (bad_line number) (sheet ink.old page.old) (sheet ink.new page.new) }
 {
-    let words = ink::emit_run(page, ink, b"BAD LINE", 0, 8);
-    let counted = ink::emit_decimal(page, words, number);
-    ink::emit_byte(page, counted, NEWLINE)
+    ink.run(page, b"BAD LINE");
+    ink.decimal(page, number);
+    ink.byte(page, NEWLINE);
 }
 
-pub fn say_answer(page: &mut [u8], ink: Ink, answer: Result<(), Refusal>) -> Ink
-    ensures { Prints (reply (answer_number answer) (ok_line [] [])) (sheet ink page.old) (sheet result page.new) }
+// This and the four below match for themselves: a closure for the first arm would be longer than the arm.
+#[tactic(auto, using(crate::proofs::LineLaws::reply_done, crate::proofs::LineLaws::reply_refused))]
+pub fn say_answer(page: &mut [u8], ink: &mut Ink, answer: Result<(), Refusal>)
+    ensures { Prints (reply (answer_number answer) (ok_line [] [])) (sheet ink.old page.old) (sheet ink.new page.new) }
 {
     match answer {
         Ok(()) => say_ok(page, ink, b"", &[]),
@@ -116,8 +123,9 @@ pub fn say_answer(page: &mut [u8], ink: Ink, answer: Result<(), Refusal>) -> Ink
 }
 
 // The answer of write.
-pub fn say_transfer(page: &mut [u8], ink: Ink, answer: Result<usize, Refusal>) -> Ink
-    ensures { Prints (reply (answer_number answer) (ok_line (Lines·number ∷ []) (transferred answer ∷ []))) (sheet ink page.old) (sheet result page.new) }
+#[tactic(auto, using(crate::proofs::LineLaws::reply_done, crate::proofs::LineLaws::reply_refused))]
+pub fn say_transfer(page: &mut [u8], ink: &mut Ink, answer: Result<usize, Refusal>)
+    ensures { Prints (reply (answer_number answer) (ok_line (Lines·number ∷ []) (transferred answer ∷ []))) (sheet ink.old page.old) (sheet ink.new page.new) }
 {
     match answer {
         Ok(count) => say_ok(page, ink, b"N", &[count]),
@@ -125,8 +133,9 @@ pub fn say_transfer(page: &mut [u8], ink: Ink, answer: Result<usize, Refusal>) -
     }
 }
 
-pub fn say_space(page: &mut [u8], ink: Ink, answer: Result<Space, Refusal>) -> Ink
-    ensures { Prints (reply (answer_number answer) (ok_line (Lines·number ∷ Lines·number ∷ []) ((space_told answer).total ∷ (space_told answer).unused ∷ []))) (sheet ink page.old) (sheet result page.new) }
+#[tactic(auto, using(crate::proofs::LineLaws::reply_done, crate::proofs::LineLaws::reply_refused))]
+pub fn say_space(page: &mut [u8], ink: &mut Ink, answer: Result<Space, Refusal>)
+    ensures { Prints (reply (answer_number answer) (ok_line (Lines·number ∷ Lines·number ∷ []) ((space_told answer).total ∷ (space_told answer).unused ∷ []))) (sheet ink.old page.old) (sheet ink.new page.new) }
 {
     match answer {
         Ok(Space { total, free }) => say_ok(page, ink, b"NN", &[total as usize, free as usize]),
@@ -135,8 +144,8 @@ pub fn say_space(page: &mut [u8], ink: Ink, answer: Result<Space, Refusal>) -> I
 }
 
 // Kind, type, access, aux, blocks used, EOF, and both stamps.
-fn say_told(page: &mut [u8], ink: Ink, info: Info) -> Ink
-    ensures { Prints (ok_line info_forms (info_values info)) (sheet ink page.old) (sheet result page.new) }
+fn say_told(page: &mut [u8], ink: &mut Ink, info: Info)
+    ensures { Prints (ok_line info_forms (info_values info)) (sheet ink.old page.old) (sheet ink.new page.new) }
 {
     let values = [
         info.kind as usize,
@@ -150,11 +159,12 @@ fn say_told(page: &mut [u8], ink: Ink, info: Info) -> Ink
         info.modified.date as usize,
         info.modified.time as usize,
     ];
-    say_ok(page, ink, b"BBBNNNNNNN", &values)
+    say_ok(page, ink, b"BBBNNNNNNN", &values);
 }
 
-pub fn say_info(page: &mut [u8], ink: Ink, answer: Result<Info, Refusal>) -> Ink
-    ensures { Prints (reply (answer_number answer) (ok_line info_forms (info_values (info_told answer)))) (sheet ink page.old) (sheet result page.new) }
+#[tactic(auto, using(crate::proofs::LineLaws::reply_done, crate::proofs::LineLaws::reply_refused))]
+pub fn say_info(page: &mut [u8], ink: &mut Ink, answer: Result<Info, Refusal>)
+    ensures { Prints (reply (answer_number answer) (ok_line info_forms (info_values (info_told answer)))) (sheet ink.old page.old) (sheet ink.new page.new) }
 {
     match answer {
         Ok(info) => say_told(page, ink, info),
@@ -163,32 +173,35 @@ pub fn say_info(page: &mut [u8], ink: Ink, answer: Result<Info, Refusal>) -> Ink
 }
 
 // A buffer whole: a dash where it has no bytes, hex digits, or its digest.
-fn put_buffer(page: &mut [u8], ink: Ink, buffer: &[u8]) -> Ink
-    ensures { Prints (buffer_text (view buffer.now) (length buffer.now)) (sheet ink page.old) (sheet result page.new) }
+#[tactic(auto, using(ink::proofs::InkLaws::emit_append, crate::proofs::LineLaws::buffer_none, crate::proofs::LineLaws::buffer_shown, crate::proofs::LineLaws::buffer_digest), unfolding(ink::specs::Ink::emit))]
+fn put_buffer(page: &mut [u8], ink: &mut Ink, buffer: &[u8])
+    ensures { Prints (buffer_text (view buffer.now) (length buffer.now)) (sheet ink.old page.old) (sheet ink.new page.new) }
 {
     if buffer.is_empty() {
-        return ink::emit_byte(page, ink, b'-');
+        ink.byte(page, b'-');
+    } else if buffer.len() <= MOST_SHOWN {
+        put_hex(page, ink, buffer);
+    } else {
+        ink.byte(page, b'#');
+        put_digest(page, ink, buffer);
     }
-    if buffer.len() <= MOST_SHOWN {
-        return put_hex(page, ink, buffer);
-    }
-    let sign = ink::emit_byte(page, ink, b'#');
-    put_digest(page, sign, buffer)
 }
 
-fn say_moved(page: &mut [u8], ink: Ink, count: usize, buffer: &[u8]) -> Ink
-    ensures { Prints (read_line count (view buffer.now) (length buffer.now)) (sheet ink page.old) (sheet result page.new) }
+#[tactic(auto, using(ink::proofs::InkLaws::emit_append), unfolding(ink::specs::Ink::emit, crate::specs::Lines::read_line))]
+fn say_moved(page: &mut [u8], ink: &mut Ink, count: usize, buffer: &[u8])
+    ensures { Prints (read_line count (view buffer.now) (length buffer.now)) (sheet ink.old page.old) (sheet ink.new page.new) }
 {
-    let word = ink::emit_run(page, ink, b"OK", 0, 2);
-    let counted = ink::emit_decimal(page, word, count);
-    let spaced = ink::emit_byte(page, counted, SPACE);
-    let shown = put_buffer(page, spaced, buffer);
-    ink::emit_byte(page, shown, NEWLINE)
+    ink.run(page, b"OK");
+    ink.decimal(page, count);
+    ink.byte(page, SPACE);
+    put_buffer(page, ink, buffer);
+    ink.byte(page, NEWLINE);
 }
 
 // The answer of read, and the buffer.
-pub fn say_read(page: &mut [u8], ink: Ink, answer: Result<usize, Refusal>, buffer: &[u8]) -> Ink
-    ensures { Prints (reply (answer_number answer) (read_line (transferred answer) (view buffer.now) (length buffer.now))) (sheet ink page.old) (sheet result page.new) }
+#[tactic(auto, using(crate::proofs::LineLaws::reply_done, crate::proofs::LineLaws::reply_refused))]
+pub fn say_read(page: &mut [u8], ink: &mut Ink, answer: Result<usize, Refusal>, buffer: &[u8])
+    ensures { Prints (reply (answer_number answer) (read_line (transferred answer) (view buffer.now) (length buffer.now))) (sheet ink.old page.old) (sheet ink.new page.new) }
 {
     match answer {
         Ok(count) => say_moved(page, ink, count, buffer),
@@ -197,20 +210,22 @@ pub fn say_read(page: &mut [u8], ink: Ink, answer: Result<usize, Refusal>, buffe
 }
 
 // The length of an image and its digest.
-pub fn say_digest(page: &mut [u8], ink: Ink, img: &[u8]) -> Ink
-    ensures { Prints (digest_line (view img.now) (length img.now)) (sheet ink page.old) (sheet result page.new) }
+#[tactic(auto, using(ink::proofs::InkLaws::emit_append), unfolding(ink::specs::Ink::emit, crate::specs::Lines::digest_line))]
+pub fn say_digest(page: &mut [u8], ink: &mut Ink, img: &[u8])
+    ensures { Prints (digest_line (view img.now) (length img.now)) (sheet ink.old page.old) (sheet ink.new page.new) }
 {
-    let word = ink::emit_run(page, ink, b"OK", 0, 2);
-    let counted = ink::emit_decimal(page, word, img.len());
-    let spaced = ink::emit_byte(page, counted, SPACE);
-    let digits = put_digest(page, spaced, img);
-    ink::emit_byte(page, digits, NEWLINE)
+    ink.run(page, b"OK");
+    ink.decimal(page, img.len());
+    ink.byte(page, SPACE);
+    put_digest(page, ink, img);
+    ink.byte(page, NEWLINE);
 }
 
-pub fn say_bytes(page: &mut [u8], ink: Ink, run: &[u8]) -> Ink
-    ensures { Prints (bytes_line (view run.now) (length run.now)) (sheet ink page.old) (sheet result page.new) }
+#[tactic(auto, using(ink::proofs::InkLaws::emit_append), unfolding(ink::specs::Ink::emit, crate::specs::Lines::bytes_line))]
+pub fn say_bytes(page: &mut [u8], ink: &mut Ink, run: &[u8])
+    ensures { Prints (bytes_line (view run.now) (length run.now)) (sheet ink.old page.old) (sheet ink.new page.new) }
 {
-    let word = ink::emit_run(page, ink, b"OK ", 0, 3);
-    let digits = put_hex(page, word, run);
-    ink::emit_byte(page, digits, NEWLINE)
+    ink.run(page, b"OK ");
+    put_hex(page, ink, run);
+    ink.byte(page, NEWLINE);
 }

@@ -1,13 +1,13 @@
 -- What set EOF answers: row by row for the entry at a place, and by what the path leads to. Assumes nothing.
 use Rattle.std.specs.Prelude.{Result, Ok, Err}
-use Prim.Native.Nat.{ℕ, ◌+◌, ◌-◌, ◌≤◌, ◌<◌, ◌/◌, ◌%◌}
+use Prim.Native.Nat.{ℕ, ◌+◌, ◌-◌, ◌≤◌, ◌<◌}
 use mathlib.Core.Path.{◌≡◌, refl, sym, ap, ◌∙◌}
 use mathlib.Core.List.{List, [], ◌∷◌}
-use mathlib.Core.Bool.{not}
+use mathlib.Core.Bool.{true, false, not}
 use lib.Dec.{ltb}
 use lib.ListN.{length}
 use native.Mathlib.Omega.{arith}
-use borrow.Author.Tests.{eq-eqb, ne_eqb, lt-ltb, le-ltb}
+use borrow.Author.Tests.{lt-ltb, le-ltb}
 use Rattle.model.specs.Bytes.{Bytes, Octets, view}
 use Rattle.model.specs.Map.{room}
 use Rattle.model.specs.Directory.{volume, sort, access, map_block, map_place}
@@ -25,11 +25,10 @@ use Rattle.model.proofs.RefusalLaws.{settle_refused, settle_accepted, number_ref
 use Rattle.directory.specs.Slots.{place_number}
 use Rattle.directory.specs.declared.Home.{Home}
 use Rattle.opening.specs.Opened.{opened_by}
-use Rattle.opening.specs.Sorts.{height_of}
+use Rattle.opening.specs.Sorts.{is_folder, height_of}
 use Rattle.opening.specs.declared.Opened.{Opened}
 use Rattle.opening.specs.declared.Opened.TheVariants as opened
 use Rattle.opening.proofs.VolumeLaws.{Fits}
-use Rattle.opening.proofs.EntryLaws.{folder, no_folder}
 use Rattle.opening.proofs.OpenedLaws.{opened_or, opened_first}
 use Rattle.held.specs.Held.{Held, Told}
 use Rattle.held.proofs.HeldLaws.{opened_volume, opened_entry}
@@ -49,26 +48,24 @@ module _ {n : ℕ} {v : Bytes} {p : Place} {x : Entry} (T : Told n v p x) (e : �
   abbrev full_row : Row
   full_row = row (ltb (room (map_block v) v n) (height_for e - height (sort v slot))) 0x48
 
-  pub number_folder : height_of x.kind ≡ 3 → first (end_rows n v e slot) ≡ 0x4B
+  pub number_folder : is_folder x.kind ≡ true → first (end_rows n v e slot) ≡ 0x4B
   unfolding end_rows
-  number_folder z = first_applies (not_data v slot) _ (sym T.folder ∙ folder x.kind z)
+  number_folder z = first_applies (not_data v slot) _ (sym T.folder ∙ z)
 
-  module _ (plain : height_of x.kind ≡ 3 → ⊥) where
+  module _ (plain : is_folder x.kind ≡ false) where
     pub told_held : Held n v slot x
-    told_held = T.held (no_folder x.kind plain)
+    told_held = T.held plain
 
     past_folder : first (end_rows n v e slot) ≡ first (lock_row ∷ far_row ∷ full_row ∷ [])
     unfolding end_rows
-    past_folder = first_passes (not_data v slot) _ (sym T.folder ∙ no_folder x.kind plain)
+    past_folder = first_passes (not_data v slot) _ (sym T.folder ∙ plain)
 
-    pub number_locked : x.access / 2 % 2 ≡ 0 → first (end_rows n v e slot) ≡ 0x4E
-    unfolding allows
-    number_locked z = past_folder ∙ first_applies lock_row _ (rw (← T.allowed) (ap not (ne_eqb (x.access / 2 % 2) 1 (λ q. omega arith))))
+    pub number_locked : allows x.access write_bit ≡ false → first (end_rows n v e slot) ≡ 0x4E
+    number_locked z = past_folder ∙ first_applies lock_row _ (rw (← T.allowed) (ap not z))
 
-    module _ (may : x.access / 2 % 2 ≡ 0 → ⊥) where
+    module _ (may : allows x.access write_bit ≡ true) where
       past_lock : first (end_rows n v e slot) ≡ first (far_row ∷ full_row ∷ [])
-      unfolding allows
-      past_lock = past_folder ∙ first_passes lock_row _ (rw (← T.allowed) (ap not (eq-eqb (x.access / 2 % 2) 1 (omega arith))))
+      past_lock = past_folder ∙ first_passes lock_row _ (rw (← T.allowed) (ap not may))
 
       pub number_far : eof_most < e → first (end_rows n v e slot) ≡ 0x4D
       number_far l = past_lock ∙ first_applies far_row _ (lt-ltb eof_most e l)

@@ -33,7 +33,7 @@ pub fn set_info(
     let fit = access / 4 % 8 == 0;
     match opening::opened_if(img, path, fit, Refusal::BadType)? {
         Opened::Volume(_) => Err(Refusal::Locked),
-        Opened::Entry(_, _, place, _) => {
+        Opened::Entry { place, .. } => {
             put_info(img, directory::slot_at(place), access, aux, modified);
             Ok(())
         }

@@ -1,5 +1,5 @@
 -- Shrinking step by step: each step leaves a tree that fits, and is one unfolding of its definition. Assumes nothing.
-use Prim.Native.Nat.{ℕ, zero, suc, ◌+◌, ◌-◌, ◌*◌, ◌%◌, ◌^◌, ◌≤◌, ◌<◌}
+use Prim.Native.Nat.{ℕ, suc, ◌+◌, ◌-◌, ◌*◌, ◌≤◌, ◌<◌}
 use mathlib.Core.Path.{◌≡◌, refl, sym, ap, ◌∙◌}
 use mathlib.Core.List.{◌∷◌, ◌++◌}
 use mathlib.Core.Bool.{Bool, true, false}
@@ -88,32 +88,6 @@ trim_fit n e h q k i v F il = go (eqb (pointer v k i) 0) refl (leb e (first_belo
         let early = leb-false e (first_below h (q * 256 + i)) t in
         rw (trim_early P e h q k i v full early)
         (move_fit F (lift F il full (prune_move (prune n e h (q * 256 + i) (pointer v k i) v (fit_below F il full) early))))
-
--- The number of a part and the first file block below it, where the whole begins below 65,536: a shift by 8 bits for each height.
-number_low : (h q : ℕ) → q ≤ first_below h q
-unfolding first_below
-number_low zero q = omega arith
-number_low (suc h) q = omega (arith, number_low h (q * 256))
-
-pub number_small : (h q : ℕ) → first_below h q < 65536 → q < 65536
-number_small h q l = omega (arith, number_low h q)
-
-pub key_first : (h : ℕ) → first_below h 0 ≡ 0
-unfolding first_below
-key_first zero = refl
-key_first (suc h) = key_first h
-
-pub part_first : (h q i : ℕ) → h < 2 → i < 256 → first_below (suc h) q < 65536 → first_below h (q * 256 + i) < 65536
-unfolding first_below
-part_first zero q i b il l = omega arith
-part_first (suc zero) q i b il l = omega arith
-part_first (suc (suc h)) q i b il l = absurd (omega arith)
-
-pub first_shift : (h q : ℕ) → h < 2 → first_below h q < 65536 → q * 2 ^ (8 * h) % 18446744073709551616 ≡ first_below h q
-unfolding first_below
-first_shift zero q b l = omega arith
-first_shift (suc zero) q b l = omega arith
-first_shift (suc (suc h)) q b l = absurd (omega arith)
 
 -- The loop over the pointers: those below i are done.
 pub record Trimming (n e h q k : ℕ) (v : Bytes) (i : ℕ) (w : Bytes) : Type 0 where

@@ -1,5 +1,5 @@
 // Shrinking a data file: keys give way to the block below them, what lies past the end is given back, and pointers to it become 0.
-// A file has a height (0 seedling, 1 sapling, 2 tree) and a key. Document 01, "Shrinking".
+// A file has a height (0 seedling, 1 sapling, 2 tree), a number since code and definitions count by it, and a key. Document 01, "Shrinking".
 #![tactic(auto)]
 
 ghost use Rattle.std.specs.Prelude.{◌≡◌, suc, ◌+◌, ◌-◌, ◌*◌, ◌≤◌, ◌<◌, length};
@@ -13,6 +13,7 @@ const MAP_BLOCK: usize = 6;
 
 // A key with blocks of the height `below` under it gives way: the block under its pointer 0 is the new key, or, where that is a hole, the key
 // itself, zeroed. Answers the new key.
+// The image that changes stays beside its number of blocks: in a struct each contract would have to say that it is the same image still.
 #[tactic(auto, using(model::proofs::Laws::Move::fit_key), unfolding(model::specs::Map::map_at))]
 fn lower(img: &mut [u8], n: usize, below: usize, key: usize) -> usize
     requires { (length img.old ≡ n * 512) × (below < 2) × Fit n (view img.old) (suc below) 0 key }
@@ -44,7 +45,7 @@ fn sink(img: &mut [u8], n: usize, to: usize, key: usize, count: usize) -> usize
 
 // Below a block of a height, whose number among those of its height is given, the file blocks from the end on are freed: a block with nothing
 // before the end goes with all below it, another is gone through.
-#[tactic(auto, using(crate::proofs::Laws::number_small))]
+#[tactic(auto, using(model::proofs::Laws::FirstBlock::number_small))]
 fn prune_part(img: &mut [u8], n: usize, end: usize, height: usize, number: usize, block: usize)
     requires { (length img.old ≡ n * 512) × (height < 3) × (first_below height number < 65536) × Fit n (view img.old) height number block }
     ensures { view img.new ≡ pruned map_place end (view img.old) height number block }
@@ -69,7 +70,7 @@ fn prune_part(img: &mut [u8], n: usize, end: usize, height: usize, number: usize
 }
 
 // The file blocks from the end on are freed.
-#[tactic(auto, using(crate::proofs::Laws::key_first))]
+#[tactic(auto, using(model::proofs::Laws::Room::first_zero))]
 fn prune(img: &mut [u8], n: usize, end: usize, height: usize, key: usize)
     requires { (length img.old ≡ n * 512) × (height < 3) × Fit n (view img.old) height 0 key }
     ensures { view img.new ≡ pruned map_place end (view img.old) height 0 key }

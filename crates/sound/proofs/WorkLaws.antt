@@ -32,7 +32,7 @@ use Rattle.directory.specs.Search.{listed}
 use Rattle.directory.proofs.SlotLaws.{says_active, entry_kind, entry_used, entry_eof, entry_ftype}
 use Rattle.sound.specs.Work.{volume_entry, standing, Stands, Describes, file_work, chain_work, names_work, own_work, entry_work, list_work, directory_work, Opened, Leads}
 use Rattle.sound.specs.declared.Own.{Own}
-use Rattle.sound.specs.declared.Own.TheVariants.{Wrong, Whole, Inner}
+use Rattle.sound.specs.declared.Own.TheVariants.{Whole, Inner}
 
 never : {A : Type 0} → ◌≡◌ {A = ℕ} 0 1 → A
 never z = absurd (let w : ⊥ = omega arith in w)
@@ -91,18 +91,21 @@ module _ (n : ℕ) (v : Bytes) (h type e k u : ℕ) (s : Seen) where
   pub file_height : (type ≡ directory_type → ⊥) → (h ≡ height_for e → ⊥) → none ≡ claim n (file_work v h type e k u) s
   file_height p q = sym (must_off n _ s _ (ne_eqb h (height_for e) q)) ∙ typed p
 
-  module _ (s' : Seen) (r : Bool) (answer : outcome r s' ≡ claim n (tree_claims v (span e) h 0 k) s) (p : type ≡ directory_type → ⊥) (q : h ≡ height_for e) where
+  module _ (s' : Seen) (r : Bool) (b : ℕ) (spanned : b ≡ span e) (answer : outcome r s' ≡ claim n (tree_claims v b h 0 k) s) (p : type ≡ directory_type → ⊥) (q : h ≡ height_for e) where
+    spans : outcome r s' ≡ claim n (tree_claims v (span e) h 0 k) s
+    spans = answer ∙ ap (λ (b : ℕ). claim n (tree_claims v b h 0 k) s) spanned
+
     fitting : claim n (tree_claims v (span e) h 0 k ++ (must (eqb u (length (nodes v h 0 k))) ∷ [])) s ≡ claim n (file_work v h type e k u) s
     fitting = sym (must_on n _ s _ (eq-eqb h (height_for e) q)) ∙ typed p
 
     pub file_refused : r ≡ false → none ≡ claim n (file_work v h type e k u) s
-    file_refused f = sym (refused n _ _ s s' r f answer) ∙ fitting
+    file_refused f = sym (refused n _ _ s s' r f spans) ∙ fitting
 
     pub file_counted : (c : ℕ) → r ≡ true → c ≡ length (nodes v h 0 k) → outcome (eqb u c) s' ≡ claim n (file_work v h type e k u) s
     file_counted c t z =
         ap (λ (c : ℕ). outcome (eqb u c) s') z
         ∙ must_last n s' (eqb u (length (nodes v h 0 k)))
-        ∙ sym (taken n (tree_claims v (span e) h 0 k) _ s s' r t answer) ∙ fitting
+        ∙ sym (taken n (tree_claims v (span e) h 0 k) _ s s' r t spans) ∙ fitting
 
 -- The header's faults, by the place.
 pub top_volume : (v : Bytes) (s : ℕ) → s ≡ volume → top_faults v s ≡ volume_faults v
@@ -120,23 +123,15 @@ inside_of n [] o = tt
 inside_of n (b ∷ bs) o = (leb-false n b (none_off (leb n b) (omega arith)), inside_of n bs (omega arith))
 
 -- A directory's chain was claimed or refused, then its header is tested.
-module _ (n : ℕ) (v : Bytes) (place k u : ℕ) (s s' : Seen) (r : Bool) (answer : outcome r s' ≡ claim n (chain_claims v 0 k u) s) where
-  pub chain_refused : r ≡ false → none ≡ claim n (chain_work v place k u) s
-  unfolding chain_work
-  chain_refused f = sym (refused n _ _ s s' r f answer)
-
+module _ (n : ℕ) (v : Bytes) (k u : ℕ) (s s' : Seen) (r : Bool) (answer : outcome r s' ≡ claim n (chain_claims v 0 k u) s) where
   pub chain_claimed : r ≡ true → Inside n (chain v k u)
   chain_claimed t = inside_of n (chain v k u) (chain_inside n v 0 k u s s' (sym (when_taken s' r _ answer t)))
 
-  pub top_wrong : r ≡ true → eqb (top_faults v place) 0 ≡ false → none ≡ claim n (chain_work v place k u) s
-  unfolding chain_work
-  top_wrong t f = sym (must_off n _ s' _ f) ∙ sym (taken n _ _ s s' r t answer)
-
-  pub count_left : (a : Bool) → r ≡ true → eqb (top_faults v place) 0 ≡ true → a ≡ eqb (active_count v k) (active v (listed v k u))
-      → outcome a s' ≡ claim n (chain_work v place k u) s
-  unfolding chain_work
-  count_left a t f e =
-      ap (λ (a : Bool). outcome a s') e ∙ must_last n s' _ ∙ sym (must_on n _ s' _ f) ∙ sym (taken n _ _ s s' r t answer)
+pub chain_is : (n : ℕ) (v : Bytes) (place k u : ℕ) (s s' : Seen) (r : Bool) → outcome r s' ≡ claim n (chain_claims v 0 k u) s
+    → outcome (r and eqb (top_faults v place) 0 and eqb (active_count v k) (active v (listed v k u))) s' ≡ claim n (chain_work v place k u) s
+unfolding chain_work ◌and◌
+chain_is n v place k u s s' true answer = must_last n s' _ ∙ sym (two n [] s' _ _) ∙ sym (taken n _ _ s s' true refl answer)
+chain_is n v place k u s s' false answer = sym (refused n _ _ s s' false refl answer)
 
 -- What stands at a place has the fields that the definitions read there.
 module _ (v : Bytes) (s : ℕ) where
@@ -148,29 +143,27 @@ module _ (v : Bytes) (s : ℕ) where
   unfolding standing
   standing_entry e = rw (ne_eqb s volume e, standing)
 
+  standing_is : {A : Type 0} (f : Entry → A) (a : A) → (s ≡ volume → f volume_entry ≡ a) → ((s ≡ volume → ⊥) → f (entry_of v (at s)) ≡ a) → f (standing v s) ≡ a
+  unfolding standing
+  standing_is f a p q =
+      decide (eqb s volume) (λ e. rw (e, standing) (p (eqb-true s volume e)))
+      (λ e. rw (standing_entry (eqb-false s volume e)) (q (eqb-false s volume e)))
+
   pub standing_kind : (standing v s).kind ≡ kind_of (sort v s) (key v s)
-  unfolding standing sort field
-  standing_kind =
-      decide (eqb s volume) (λ e. rw (e, standing, sort, field))
-      (λ e. rw (standing_entry (eqb-false s volume e)) (entry_kind v s (eqb-false s volume e)))
+  unfolding sort field
+  standing_kind = standing_is (λ e. e.kind) _ (λ e. rw e) (entry_kind v s)
 
   pub standing_used : (standing v s).used ≡ used v s
-  unfolding standing field
-  standing_used =
-      decide (eqb s volume) (λ e. rw (e, standing, field))
-      (λ e. rw (standing_entry (eqb-false s volume e)) (entry_used v s (eqb-false s volume e)))
+  unfolding field
+  standing_used = standing_is (λ e. e.used) _ (λ e. rw e) (entry_used v s)
 
   pub standing_eof : (standing v s).eof ≡ eof v s
-  unfolding standing eof
-  standing_eof =
-      decide (eqb s volume) (λ e. rw (e, standing, eof))
-      (λ e. rw (standing_entry (eqb-false s volume e)) (entry_eof v s (eqb-false s volume e)))
+  unfolding eof
+  standing_eof = standing_is (λ e. e.eof) _ (λ e. rw e) (entry_eof v s)
 
   pub standing_type : (standing v s).ftype ≡ ftype v s
-  unfolding standing ftype
-  standing_type =
-      decide (eqb s volume) (λ e. rw (e, standing, ftype))
-      (λ e. rw (standing_entry (eqb-false s volume e)) (entry_ftype v s (eqb-false s volume e)))
+  unfolding ftype
+  standing_type = standing_is (λ e. e.ftype) _ (λ e. rw e) (entry_ftype v s)
 
 -- The sort of an active entry, from its kind.
 kind_directory : (t : Sort) (k b : ℕ) (e f : Entry) → slot_says t e ≡ Active f → kind_of t k ≡ Directory b → (t ≡ directory) × (k ≡ b)
@@ -265,19 +258,19 @@ length_map : {A B : Type 0} (f : A → B) (xs : List A) → length (map f xs) �
 length_map f [] = refl
 length_map f (x ∷ xs) = ap suc (length_map f xs)
 
-pub file_own : (v : Bytes) (h l k s : ℕ) → sort v s ≡ file h
-    → claims_of (file h) v l k s
+file_own : (v : Bytes) (h l k s : ℕ) → sort v s ≡ file h
+    → claims_of (sort v s) v l k s
     ≡ must (capital_name v (at s)) ∷ must (eqb (directory_key v s) k) ∷ file_work v h (ftype v s) (eof v s) (key v s) (used v s)
 unfolding claims_of file_claims file_work blocks_of
-file_own v h l k s e = rw (e, length_map (λ (x : Node). x.block) (nodes v h 0 (key v s)))
+file_own v h l k s e = rw (e, e, length_map (λ (x : Node). x.block) (nodes v h 0 (key v s)))
 
-pub directory_own : (v : Bytes) (l k s : ℕ) → sort v s ≡ directory
-    → claims_of directory v l k s
+directory_own : (v : Bytes) (l k s : ℕ) → sort v s ≡ directory
+    → claims_of (sort v s) v l k s
     ≡ must (not (eqb l 0)) ∷ must (capital_name v (at s)) ∷ must (eqb (directory_key v s) k)
     ∷ must (eqb (ftype v s) directory_type) ∷ must (not (eqb (used v s) 0)) ∷ must (eqb (eof v s) (used v s * 512))
     ∷ own_work v s (key v s) (used v s)
 unfolding claims_of directory_claims chain_work
-directory_own v l k s e = rw (directory_kids v s e, append_assoc (chain_claims v 0 (key v s) (used v s)))
+directory_own v l k s e = rw (e, directory_kids v s e, append_assoc (chain_claims v 0 (key v s) (used v s)))
 
 -- the fields of a directory, and those of a data file, as the entry has them
 directory_fits : Bytes → ℕ → Bool
@@ -304,39 +297,39 @@ fields_some f u t e =
 
 -- The claims of a directory by itself, test by test: `a` answers for the name and the directory's key, `f` for the fields.
 module _ (n : ℕ) (v : Bytes) (l k s : ℕ) (seen : Seen) (d : sort v s ≡ directory) where
-  parted : claim n (claims_of directory v l k s) seen
+  parted : claim n (claims_of (sort v s) v l k s) seen
       ≡ claim n (must (not (eqb l 0)) ∷ must (capital_name v (at s)) ∷ must (eqb (directory_key v s) k)
       ∷ must (eqb (ftype v s) directory_type) ∷ must (not (eqb (used v s) 0)) ∷ must (eqb (eof v s) (used v s * 512))
       ∷ own_work v s (key v s) (used v s)) seen
   parted = ap (λ (cs : List Claim). claim n cs seen) (directory_own v l k s d)
 
-  pub no_level : l ≡ 0 → none ≡ claim n (claims_of directory v l k s) seen
+  pub no_level : l ≡ 0 → none ≡ claim n (claims_of (sort v s) v l k s) seen
   no_level z = sym (must_off n _ seen _ (rw (eq-eqb l 0 z))) ∙ sym parted
 
   module _ (level : l ≡ 0 → ⊥) (a : Bool) (named : a ≡ (capital_name v (at s) and eqb (directory_key v s) k)) where
     levelled : claim n (must a ∷ must (eqb (ftype v s) directory_type) ∷ must (not (eqb (used v s) 0))
         ∷ must (eqb (eof v s) (used v s * 512)) ∷ own_work v s (key v s) (used v s)) seen
-        ≡ claim n (claims_of directory v l k s) seen
+        ≡ claim n (claims_of (sort v s) v l k s) seen
     levelled =
         rw named (sym (two n _ seen (capital_name v (at s)) (eqb (directory_key v s) k)) ∙ sym (must_on n _ seen _ (rw (ne_eqb l 0 level))) ∙ sym parted)
 
-    pub misnamed : a ≡ false → none ≡ claim n (claims_of directory v l k s) seen
+    pub misnamed : a ≡ false → none ≡ claim n (claims_of (sort v s) v l k s) seen
     misnamed f = sym (must_off n _ seen a f) ∙ levelled
 
     module _ (e : Entry) (r : e ≡ standing v s) (right : a ≡ true) (f : Bool)
         (fields : f ≡ (eqb e.ftype directory_type and not (eqb e.used 0) and eqb e.eof (e.used * 512))) where
-      fitted : claim n (must f ∷ own_work v s (key v s) (used v s)) seen ≡ claim n (claims_of directory v l k s) seen
+      fitted : claim n (must f ∷ own_work v s (key v s) (used v s)) seen ≡ claim n (claims_of (sort v s) v l k s) seen
       unfolding directory_fits
       fitted =
           ap (λ (f : Bool). claim n (must f ∷ own_work v s (key v s) (used v s)) seen) (fields ∙ fields_read v s e r)
           ∙ sym (three n (own_work v s (key v s) (used v s)) seen (eqb (ftype v s) directory_type) (not (eqb (used v s) 0)) (eqb (eof v s) (used v s * 512)))
           ∙ sym (must_on n _ seen a right) ∙ levelled
 
-      pub misfit : f ≡ false → none ≡ claim n (claims_of directory v l k s) seen
+      pub misfit : f ≡ false → none ≡ claim n (claims_of (sort v s) v l k s) seen
       misfit q = sym (must_off n _ seen f q) ∙ fitted
 
       pub chain_left : f ≡ true → (b : ℕ) → b ≡ key v s
-          → claim n (own_work v s b e.used) seen ≡ claim n (claims_of directory v l k s) seen
+          → claim n (own_work v s b e.used) seen ≡ claim n (claims_of (sort v s) v l k s) seen
       chain_left q b z =
           ap (λ (b : ℕ). claim n (own_work v s b e.used) seen) z
           ∙ ap (λ (u : ℕ). claim n (own_work v s (key v s) u) seen) (used_read v s e r)
@@ -345,29 +338,19 @@ module _ (n : ℕ) (v : Bytes) (l k s : ℕ) (seen : Seen) (d : sort v s ≡ dir
 -- The claims of a data file.
 module _ (n : ℕ) (v : Bytes) (h l k s : ℕ) (seen : Seen) (d : sort v s ≡ file h) (a : Bool)
     (named : a ≡ (capital_name v (at s) and eqb (directory_key v s) k)) where
-  file_named : claim n (must a ∷ file_work v h (ftype v s) (eof v s) (key v s) (used v s)) seen ≡ claim n (claims_of (file h) v l k s) seen
+  file_named : claim n (must a ∷ file_work v h (ftype v s) (eof v s) (key v s) (used v s)) seen ≡ claim n (claims_of (sort v s) v l k s) seen
   file_named =
       rw named (sym (two n _ seen (capital_name v (at s)) (eqb (directory_key v s) k)) ∙ ap (λ (cs : List Claim). claim n cs seen) (sym (file_own v h l k s d)))
 
-  pub file_misnamed : a ≡ false → none ≡ claim n (claims_of (file h) v l k s) seen
+  pub file_misnamed : a ≡ false → none ≡ claim n (claims_of (sort v s) v l k s) seen
   file_misnamed f = sym (must_off n _ seen a f) ∙ file_named
 
   pub file_left : (b : ℕ) (e : Entry) → Describes v s b e → a ≡ true
-      → claim n (file_work v h e.ftype e.eof b e.used) seen ≡ claim n (claims_of (file h) v l k s) seen
+      → claim n (file_work v h e.ftype e.eof b e.used) seen ≡ claim n (claims_of (sort v s) v l k s) seen
   file_left b e r t =
       ap (λ (cs : List Claim). claim n cs seen) (file_read v s e r.1 h b r.0) ∙ sym (must_on n _ seen a t) ∙ file_named
 
--- The same at any level.
-pub file_levels : (v : Bytes) (h l k s : ℕ) → sort v s ≡ file h → claims_of (file h) v 0 k s ≡ claims_of (sort v s) v l k s
-unfolding claims_of
-file_levels v h l k s e = rw e
-
 module _ (n : ℕ) (v : Bytes) (l s : ℕ) where
-  pub leads_any : (r : Own) → Leads n v 0 s r → Leads n v l s r
-  leads_any Wrong h = h
-  leads_any Whole h = h
-  leads_any (Inner k u) h = absurd (not-suc-le-zero h.level)
-
   pub opened : (r : Own) (k u : ℕ) → r ≡ Inner k u → Leads n v l s r → Opened n v l s k u
   opened r k u e h = rw e at h
 
@@ -506,15 +489,15 @@ module _ (v : Bytes) where
   unfolding Agrees gather field
   volume_work = claims_work 32 volume (volume ∷ []) ∙ append-nil (entry_work v 32 2 volume)
 
--- The decision from the walk's answer.
-module _ (n : ℕ) (v : Bytes) (seen : Seen) (r : Bool) (answer : outcome r seen ≡ claim n (entry_work v 32 2 volume) (reserved n)) where
-  pub fits_not : (t : Bool) → r ≡ false → false ≡ (fits n v (claim n (volume_claims v) (reserved n)) and t)
-  unfolding fits ◌and◌
-  fits_not t f = rw (volume_work v, ← answer, f)
-
-  pub fits_map : (t : Bool) → r ≡ true → (map_right v seen n and t) ≡ (fits n v (claim n (volume_claims v) (reserved n)) and t)
+-- The decision from the walk's answer, the map and what is behind the volume.
+module _ (n : ℕ) (v : Bytes) (seen seen' : Seen) (r t : Bool) (start : seen ≡ reserved n) (answer : outcome r seen' ≡ claim n (entry_work v 32 2 volume) seen) where
+  pub fits_on : r ≡ true → (map_right v seen' n and t) ≡ (fits n v (claim n (volume_claims v) (reserved n)) and t)
   unfolding fits
-  fits_map t q = rw (volume_work v, ← answer, q)
+  fits_on q = rw (volume_work v, ← start, ← answer, q)
+
+  pub fits_off : r ≡ false → false ≡ (fits n v (claim n (volume_claims v) (reserved n)) and t)
+  unfolding fits ◌and◌
+  fits_off q = rw (volume_work v, ← start, ← answer, q)
 
 -- What the first tests of an image say.
 pub size_right : (n : ℕ) → 16 ≤ n → n ≤ 65535 → proper_size n ≡ true

@@ -1,6 +1,6 @@
 -- The claims of an entry by the values that its slot has, and of all that is below it, for the functions that take them one by one.
 use Prim.{Unit}
-use Rattle.std.specs.Prelude.{ℕ, zero, suc, ◌≤◌, ◌<◌, ◌≡◌, List, [], ◌∷◌, ◌++◌, Bool, true, false, not, eqb, length}
+use Rattle.std.specs.Prelude.{ℕ, zero, suc, ◌<◌, ◌≡◌, List, [], ◌∷◌, ◌++◌, Bool, true, false, not, eqb, length}
 use Rattle.model.specs.Bytes.{Bytes, gather, ◌and◌}
 use Rattle.model.specs.Map.{rest_clear}
 use Rattle.model.specs.Directory.{directory_type, volume, map_place, sort, active_count, key, at, chain, kids, active}
@@ -9,21 +9,12 @@ use Rattle.model.specs.Sound.{twins, top_faults}
 use Rattle.model.specs.declared.Kind.TheVariants.{Directory}
 use Rattle.model.specs.declared.Entry.{Entry}
 use Rattle.claims.specs.Claims.{Claim, must, claim, chain_claims, tree_claims, claims_of, volume_claims, reserved, fits}
-use Rattle.marks.specs.Marks.{marks, nothing}
-use Rattle.checks.specs.Inside.{Inside, Readable}
+use Rattle.checks.specs.Inside.{Inside}
 use Rattle.directory.specs.Slots.{entry_of, slot_says}
 use Rattle.directory.specs.declared.Slot.TheVariants.{Active}
 use Rattle.directory.specs.Search.{listed}
 use Rattle.sound.specs.declared.Own.{Own}
 use Rattle.sound.specs.declared.Own.TheVariants.{Wrong, Whole, Inner}
-
--- a volume's image and the room for the claimed blocks
-abbrev pub Ready : ℕ → List ℕ → List ℕ → Type 0
-Ready n img seen = (16 ≤ n) × Readable n img × (length seen ≡ 8192)
-
--- the same before anything is claimed
-abbrev pub Unclaimed : ℕ → List ℕ → List ℕ → Type 0
-Unclaimed n img seen = (16 ≤ n) × Readable n img × (marks seen ≡ nothing)
 
 -- what stands at a place: the volume is a directory with its own key, length, type and EOF
 abbrev pub volume_entry : Entry

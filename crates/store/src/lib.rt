@@ -7,6 +7,7 @@ ghost use Rattle.model.specs.Bytes.{view, put, paste, from, same, clear, put_wor
 ghost use Rattle.model.specs.Map.{all_zero};
 ghost use Rattle.model.specs.File.{pointer};
 
+// These two are public: docs/STATEMENTS.md names them.
 pub fn least(a: usize, b: usize) -> usize
     ensures { result ≡ min a b }
 {
@@ -19,6 +20,7 @@ pub fn largest(a: usize, b: usize) -> usize
     a.max(b)
 }
 
+// Words and longs are two, as their definitions are: each is one line of the library.
 #[tactic(auto, unfolding(model::specs::Bytes::word))]
 pub fn get_word(img: &[u8], at: usize) -> usize
     requires { at + 1 < length img.now }
@@ -56,6 +58,7 @@ pub fn put_byte(img: &mut [u8], at: usize, v: u8)
 }
 
 // The low two bytes of a number: callers keep it below 65,536.
+// Words and longs are two here too.
 pub fn put_word(img: &mut [u8], at: usize, v: usize)
     requires { at + 1 < length img.old }
     ensures { view img.new ≡ put_word (view img.old) at v }
@@ -72,6 +75,7 @@ pub fn put_long(img: &mut [u8], at: usize, v: usize)
 }
 
 // k bytes of src, from `at` on, become those of dst from `to` on.
+// A slice with an address and a length here and below, since the clauses say the whole slice by address.
 pub fn copy_run(dst: &mut [u8], to: usize, src: &[u8], at: usize, k: usize)
     requires { (to + k ≤ length dst.old) × (at + k ≤ length src.now) }
     ensures { view dst.new ≡ paste (view dst.old) to k (from (view src.now) at) }

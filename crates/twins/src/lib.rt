@@ -94,28 +94,6 @@ fn bit(img: &[u8], a: usize, hash: usize, i: usize) -> bool
     }
 }
 
-fn same_at(img: &[u8], places: &[u32], p: usize, q: usize) -> bool
-    requires { (p < length places.now) × (q < length places.now) × Stored (length img.now) places.now }
-    ensures { result ≡ alike (view img.now) (get_or places.now p 0) (get_or places.now q 0) }
-{
-    same_name(img, places[p] as usize, places[q] as usize)
-}
-
-fn hash_at(img: &[u8], places: &[u32], p: usize) -> usize
-    requires { (p < length places.now) × Stored (length img.now) places.now }
-    ensures { result ≡ hash_of (from (view img.now) (get_or places.now p 0)) }
-{
-    hash(img, places[p] as usize)
-}
-
-fn bit_at(img: &[u8], places: &[u32], p: usize, hash: usize, i: usize) -> bool
-    requires p_in_bounds { (p < length places.now) × Stored (length img.now) places.now }
-    requires hash_value { hash ≡ hash_of (from (view img.now) (get_or places.now p 0)) }
-    ensures { result ≡ bit_of (from (view img.now) (get_or places.now p 0)) i }
-{
-    bit(img, places[p] as usize, hash, i)
-}
-
 #[tactic(auto, unfolding(crate::specs::Twins::lefts, crate::specs::Twins::rights))]
 fn child_of(nodes: &[Node], bit: bool, node: usize) -> usize
     requires { node < length nodes.now }
@@ -128,26 +106,58 @@ fn child_of(nodes: &[Node], bit: bool, node: usize) -> usize
     }
 }
 
-// Where name k belongs in the tree of those before it; none where one of them is its twin. A child is a later node, so that k steps are enough.
-fn descend(img: &[u8], places: &[u32], nodes: &[Node], k: usize) -> Option<Spot>
-    requires k_nonzero { (0 < k) × (k < length places.now) × (k < length nodes.now) × Stored (length img.now) places.now }
-    requires tree { Tree (view img.now) places.now k (lefts nodes.now) (rights nodes.now) }
-    ensures { MatchOption result (HasTwin (view img.now) places.now k) (λ s. Lands (view img.now) places.now k (lefts nodes.now) (rights nodes.now) s) }
-{
-    let hash = hash_at(img, places, k);
-    let mut node = 0;
-    for i in 0..k {
-        if same_at(img, places, node, k) {
-            return None;
-        }
-        let bit = bit_at(img, places, k, hash, i);
-        let next = child_of(nodes, bit, node);
-        if next == 0 {
-            return Some(Spot { node, bit });
-        }
-        node = next;
+// The names that are compared: their slots' addresses in an image.
+#[derive(Clone, Copy)]
+struct Roster<'a> {
+    img: &'a [u8],
+    places: &'a [u32],
+    ghost stored: { Stored (length img.now) places.now },
+}
+
+impl Roster<'_> {
+    fn same_at(&self, p: usize, q: usize) -> bool
+        requires { (p < length self.now.places.now) × (q < length self.now.places.now) }
+        ensures { result ≡ alike (view self.now.img.now) (get_or self.now.places.now p 0) (get_or self.now.places.now q 0) }
+    {
+        same_name(self.img, self.places[p] as usize, self.places[q] as usize)
     }
-    None
+
+    fn hash_at(&self, p: usize) -> usize
+        requires { p < length self.now.places.now }
+        ensures { result ≡ hash_of (from (view self.now.img.now) (get_or self.now.places.now p 0)) }
+    {
+        hash(self.img, self.places[p] as usize)
+    }
+
+    fn bit_at(&self, p: usize, hash: usize, i: usize) -> bool
+        requires p_in_bounds { p < length self.now.places.now }
+        requires hash_value { hash ≡ hash_of (from (view self.now.img.now) (get_or self.now.places.now p 0)) }
+        ensures { result ≡ bit_of (from (view self.now.img.now) (get_or self.now.places.now p 0)) i }
+    {
+        bit(self.img, self.places[p] as usize, hash, i)
+    }
+
+    // Where name k belongs in the tree of those before it; none where one of them is its twin. A child is a later node, so that k steps are enough.
+    fn descend(&self, nodes: &[Node], k: usize) -> Option<Spot>
+        requires k_nonzero { (0 < k) × (k < length self.now.places.now) × (k < length nodes.now) }
+        requires tree { Tree (view self.now.img.now) self.now.places.now k (lefts nodes.now) (rights nodes.now) }
+        ensures { let v = view self.now.img.now in let places = self.now.places.now in MatchOption result (HasTwin v places k) (λ s. Lands v places k (lefts nodes.now) (rights nodes.now) s) }
+    {
+        let hash = self.hash_at(k);
+        let mut node = 0;
+        for i in 0..k {
+            if self.same_at(node, k) {
+                return None;
+            }
+            let bit = self.bit_at(k, hash, i);
+            let next = child_of(nodes, bit, node);
+            if next == 0 {
+                return Some(Spot { node, bit });
+            }
+            node = next;
+        }
+        None
+    }
 }
 
 // Node k, with no child, becomes a child of a node before it.
@@ -174,9 +184,10 @@ pub fn no_twins(img: &[u8], places: &[u32], nodes: &mut [Node]) -> bool
     if n == 0 {
         return true;
     }
+    let names = Roster { img, places };
     nodes[0] = Node { left: 0, right: 0 };
     for k in 1..n {
-        let Some(spot) = descend(img, places, nodes, k) else {
+        let Some(spot) = names.descend(nodes, k) else {
             return false;
         };
         attach(nodes, spot, k);

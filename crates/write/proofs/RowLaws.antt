@@ -1,6 +1,6 @@
 -- What write answers: row by row for the entry at a place, and by what the path leads to. Assumes nothing.
 use Rattle.std.specs.Prelude.{Result, Ok, Err}
-use Prim.Native.Nat.{ℕ, ◌+◌, ◌≤◌, ◌<◌, ◌/◌, ◌%◌}
+use Prim.Native.Nat.{ℕ, ◌+◌, ◌≤◌, ◌<◌}
 use mathlib.Core.Path.{◌≡◌, refl, sym, ap, ◌∙◌}
 use mathlib.Core.List.{List, [], ◌∷◌}
 use mathlib.Core.Bool.{Bool, true, false, not}
@@ -25,11 +25,10 @@ use Rattle.model.proofs.RefusalLaws.{settle_refused, settle_accepted, number_ref
 use Rattle.directory.specs.Slots.{place_number}
 use Rattle.directory.specs.declared.Home.{Home}
 use Rattle.opening.specs.Opened.{opened_by}
-use Rattle.opening.specs.Sorts.{height_of}
+use Rattle.opening.specs.Sorts.{is_folder, height_of}
 use Rattle.opening.specs.declared.Opened.{Opened}
 use Rattle.opening.specs.declared.Opened.TheVariants as opened
 use Rattle.opening.proofs.VolumeLaws.{Fits}
-use Rattle.opening.proofs.EntryLaws.{folder, no_folder}
 use Rattle.opening.proofs.OpenedLaws.{opened_or, opened_first}
 use Rattle.held.specs.Held.{Held, Told}
 use Rattle.held.proofs.HeldLaws.{opened_volume, opened_entry}
@@ -40,10 +39,6 @@ module _ (e pos size : ℕ) where
   pub far_start : e < pos → true ≡ (ltb e pos or ltb eof_most (pos + size))
   unfolding ◌or◌
   far_start l = rw (lt-ltb e pos l) refl
-
-  pub far_end : (e < pos → ⊥) → eof_most < pos + size → true ≡ (ltb e pos or ltb eof_most (pos + size))
-  unfolding ◌or◌
-  far_end z l = rw (le-ltb e pos (omega arith), lt-ltb eof_most (pos + size) l) refl
 
   pub far_is : (e < pos → ⊥) → ltb eof_most (pos + size) ≡ (ltb e pos or ltb eof_most (pos + size))
   unfolding ◌or◌
@@ -82,26 +77,24 @@ module _ {n : ℕ} {v : Bytes} {p : Place} {x : Entry} (T : Told n v p x) (pos s
   abbrev full_row : Row
   full_row = row (ltb (room (map_block v) v n) (write_need v s pos size)) 0x48
 
-  pub number_folder : height_of x.kind ≡ 3 → first (write_rows n v pos size s) ≡ 0x4B
+  pub number_folder : is_folder x.kind ≡ true → first (write_rows n v pos size s) ≡ 0x4B
   unfolding write_rows
-  number_folder z = first_applies (not_data v s) _ (sym T.folder ∙ folder x.kind z)
+  number_folder z = first_applies (not_data v s) _ (sym T.folder ∙ z)
 
-  module _ (plain : height_of x.kind ≡ 3 → ⊥) where
+  module _ (plain : is_folder x.kind ≡ false) where
     pub told_held : Held n v s x
-    told_held = T.held (no_folder x.kind plain)
+    told_held = T.held plain
 
     past_folder : first (write_rows n v pos size s) ≡ first (lock_row ∷ far_row ∷ full_row ∷ [])
     unfolding write_rows
-    past_folder = first_passes (not_data v s) _ (sym T.folder ∙ no_folder x.kind plain)
+    past_folder = first_passes (not_data v s) _ (sym T.folder ∙ plain)
 
-    pub number_locked : x.access / 2 % 2 ≡ 0 → first (write_rows n v pos size s) ≡ 0x4E
-    unfolding allows
-    number_locked z = past_folder ∙ first_applies lock_row _ (rw (← T.allowed) (ap not (ne_eqb (x.access / 2 % 2) 1 (λ q. omega arith))))
+    pub number_locked : allows x.access write_bit ≡ false → first (write_rows n v pos size s) ≡ 0x4E
+    number_locked z = past_folder ∙ first_applies lock_row _ (rw (← T.allowed) (ap not z))
 
-    module _ (may : x.access / 2 % 2 ≡ 0 → ⊥) where
+    module _ (may : allows x.access write_bit ≡ true) where
       past_lock : first (write_rows n v pos size s) ≡ first (far_row ∷ full_row ∷ [])
-      unfolding allows
-      past_lock = past_folder ∙ first_passes lock_row _ (rw (← T.allowed) (ap not (eq-eqb (x.access / 2 % 2) 1 (omega arith))))
+      past_lock = past_folder ∙ first_passes lock_row _ (rw (← T.allowed) (ap not may))
 
       pub number_far : true ≡ (ltb x.eof pos or ltb eof_most (pos + size)) → first (write_rows n v pos size s) ≡ 0x4D
       number_far z = past_lock ∙ first_applies far_row _ (rw (← told_held.ends) (sym z))

@@ -23,4 +23,4 @@ returns c =
     let vs = a.values.now in
     let bs = a.buffer.now in
     let o = written (length a.img.now) (view a.img.now) (held vs a.room.now bs) in
-    if_so _ _ _ (le-leb (view vs 4) (length bs) (omega arith)) (writes_leaves o c.fill_run.new.dst c.fill_run.ensures c.write-transfer.ensures (record { good = refl; page = c.say_transfer.ensures }))
+    if_so _ _ _ (le-leb (view vs 4) (length bs) (omega arith)) (writes_leaves o c.fill_run.new.dst c.fill_run.ensures c.write.ensures (record { good = refl; page = c.say_transfer.ensures }))

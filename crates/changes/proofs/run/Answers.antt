@@ -1,5 +1,6 @@
 -- `changes::run` meets its contract.
 use mathlib.Core.Path.{refl}
+use Rattle.std.proofs.Common.{rules}
 use lib.ListN.{length}
 use Rattle.model.specs.Bytes.{view}
 use Rattle.lines.specs.Commands.{held}
@@ -29,6 +30,12 @@ returns-in-Write c =
     let v = view a.img.now in
     rw c.in-Write.is (writes_leaves (written n v (held vs ts bs)) bs refl c.write.ensures (record { good = refl; page = c.say_transfer.ensures }))
 
-pub returns-in-SetRun : goal.returns-in-SetRun
+pub returns-in_err-set_run-in-SetRun : goal.returns-in_err-set_run-in-SetRun
 unfolding changed laid_in
-returns-in-SetRun c = rw c.in-SetRun.is (c.set_run.ensures c.args.buffer.now)
+returns-in_err-set_run-in-SetRun c =
+    let said = c.in_err-set_run-in-SetRun.ensures c.args.buffer.now in
+    rw c.in-SetRun.is (search rules)
+
+pub returns-in_ok-set_run-in-SetRun : goal.returns-in_ok-set_run-in-SetRun
+unfolding changed laid_in
+returns-in_ok-set_run-in-SetRun c = rw c.in-SetRun.is (c.in_ok-set_run-in-SetRun.ensures c.args.buffer.now)

@@ -1,18 +1,8 @@
 -- `checks::header_right` meets its contract. The faults are none where the three tests hold.
 use mathlib.Core.Path.{◌∙◌}
-use borrow.Author.Rules.{rules}
-use Rattle.model.specs.Directory.{at}
 use Rattle.checks.proofs.Laws.{header_is, second_if, second_not, third_if, third_not}
 use Rattle.checks.proofs.header_right.Goals as goal
 use Rattle.checks.proofs.header_right.Goals.{then-header_fits, else-header_fits}
-
-pub points_at-requires : goal.points_at-requires
-unfolding at
-points_at-requires c = search rules
-
-pub address-requires : goal.address-requires
-unfolding at
-address-requires c = search rules
 
 pub returns-then-points_at : goal.returns-then-points_at
 returns-then-points_at c =

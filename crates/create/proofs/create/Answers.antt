@@ -1,5 +1,4 @@
 -- `create::create` meets its contract. By what houses the new entry; its name is the last part of the path.
-use Rattle.std.proofs.lemmas.Result.{err_from_is_err_and}
 use native.Mathlib.Omega.{arith}
 use mathlib.Core.Path.{sym, ap, ◌∙◌}
 use mathlib.Core.List.{List}
@@ -10,6 +9,7 @@ use Rattle.model.specs.Names.{part}
 use Rattle.model.specs.Create.{Wanted}
 use Rattle.directory.specs.Slots.{place_number}
 use Rattle.entries.proofs.LastLaws.{last_size, last_entry, last_subdirectory}
+use Rattle.opening.proofs.PassLaws.{passed}
 use Rattle.create.specs.Entered.{create_in}
 use Rattle.create.proofs.HousedLaws.{housed_in, kind_small}
 use Rattle.create.proofs.CallLaws.{create_refused, create_housed, in_same}
@@ -29,9 +29,7 @@ create_in-requires c =
 
 pub returns-in_err-n : goal.returns-in_err-n
 returns-in_err-n c =
-    let a = c.args in
-    let q = err_from_is_err_and c.from_residual.result c.from_residual.ensures.1 in
-    rw (q.1, q.2) (create_refused a.img.now (view a.path.now) (length a.path.now) (record { kind = a.kind; ftype = a.ftype; aux = a.aux; stamp = a.stamp }) _ (sym c.housed_by.ensures ∙ c.in_err-n.was))
+    rw (passed c.from_residual.ensures.1) (create_refused _ _ _ _ _ (sym c.housed_by.ensures ∙ c.in_err-n.was))
 
 pub returns : goal.returns
 returns c =

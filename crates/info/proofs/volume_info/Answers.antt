@@ -12,4 +12,4 @@ free_blocks-requires c = search rules
 
 pub returns : goal.returns
 returns c =
-    volume_told c.args.n (view c.args.img.now) _ _ _ _ refl c.half.ensures c.half-2.ensures c.free_blocks.ensures.0 c.requires.3
+    volume_told c.args.n (view c.args.img.now) _ _ _ refl c.stamp_at-created.ensures c.free_blocks.ensures.0 c.requires.3

@@ -3,4 +3,4 @@ use Rattle.ink.proofs.InkLaws.{shows}
 use Rattle.listing.proofs.page_of_volume.Goals as goal
 
 pub returns : goal.returns
-returns c = shows _ _ _ _ _ (rw c.blank.ensures at c.list_volume.ensures)
+returns c = shows _ _ _ _ _ (rw c.blank.ensures at c.volume.ensures)

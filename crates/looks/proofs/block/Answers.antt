@@ -13,7 +13,7 @@ pub returns-then-img-end : goal.returns-then-img-end
 returns-then-img-end c =
     let a = c.args in
     let i = a.img.now in
-    block_none (length i) (view i) a.number c.if-img-end.true
+    block_none (length i) (view i) a.number c.if-img-end.true refl
 
 pub returns : goal.returns
 returns c =
@@ -22,4 +22,4 @@ returns c =
     let x = a.number * 512 in
     let y = c.say_bytes in
     block_said (length i) (view i) a.number c.if-img-end.false refl
-    (part_as (λ f n. Prints (bytes_line f n) (sheet a.ink a.page.now) (sheet y.result y.new.page)) i x (x + 512) 512 refl c.if-img-end.false y.ensures)
+    (part_as (λ f n. Prints (bytes_line f n) (sheet a.ink.now a.page.now) (sheet y.new.ink y.new.page)) i x (x + 512) 512 refl c.if-img-end.false y.ensures)

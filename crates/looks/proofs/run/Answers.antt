@@ -6,7 +6,6 @@ use Rattle.model.specs.Bytes.{view}
 use Rattle.ink.specs.Ink.{sheet, Prints}
 use Rattle.opening.specs.Opened.{opened_by}
 use Rattle.lines.specs.Commands.{held}
-use Rattle.lines.proofs.LeftLaws.{done_leaves}
 use Rattle.looks.specs.Looks.{space_line, info_line, found_line, looked}
 use Rattle.looks.proofs.LookLaws.{looked_by}
 use Rattle.lines.proofs.PartLaws.{text_as}
@@ -24,7 +23,7 @@ returns-in-Space c =
     let f = held a.values.now a.room.now bs in
     let y = c.space.ensures in
     looked_by n v (length bs) f c.in-Space.is
-    (done_leaves refl refl refl (rw (y.said, y.told) at c.say_space.ensures))
+    (record { good = refl; image = refl; buffer = refl; page = rw (y.said, y.told) at c.say_space.ensures })
 
 pub returns-in-GetInfo : goal.returns-in-GetInfo
 unfolding looked
@@ -37,8 +36,7 @@ returns-in-GetInfo c =
     let y = c.get_info in
     let fit = fits_by a.values.now (ap command.Look c.in-GetInfo.is) refl c.requires.0 in
     looked_by n v (length bs) f c.in-GetInfo.is
-    (done_leaves refl refl refl
-    (text_as (λ p k. Prints (info_line n v p k) (sheet a.ink a.page.now) (sheet y.result y.new.page)) a.values.now a.room.now (omega (arith, c.requires.1, fit 0 (omega arith))) y.ensures))
+    (record { good = refl; image = refl; buffer = refl; page = text_as (λ p k. Prints (info_line n v p k) (sheet a.ink.now a.page.now) (sheet y.new.ink y.new.page)) a.values.now a.room.now (omega (arith, c.requires.1, fit 0 (omega arith))) y.ensures })
 
 pub returns-in-Find : goal.returns-in-Find
 unfolding looked
@@ -51,5 +49,4 @@ returns-in-Find c =
     let y = c.find in
     let fit = fits_by a.values.now (ap command.Look c.in-Find.is) refl c.requires.0 in
     looked_by n v (length bs) f c.in-Find.is
-    (done_leaves refl refl refl
-    (text_as (λ p k. Prints (found_line n v (opened_by n v p k)) (sheet a.ink a.page.now) (sheet y.result y.new.page)) a.values.now a.room.now (omega (arith, c.requires.1, fit 0 (omega arith))) y.ensures))
+    (record { good = refl; image = refl; buffer = refl; page = text_as (λ p k. Prints (found_line n v (opened_by n v p k)) (sheet a.ink.now a.page.now) (sheet y.new.ink y.new.page)) a.values.now a.room.now (omega (arith, c.requires.1, fit 0 (omega arith))) y.ensures })

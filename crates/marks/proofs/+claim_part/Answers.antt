@@ -8,7 +8,8 @@ use Rattle.model.specs.Bytes.{view}
 use Rattle.model.specs.File.{nodes}
 use Rattle.claims.specs.Claims.{outcome}
 use Rattle.marks.specs.Marks.{marks, took_all}
-use Rattle.marks.proofs.Laws.{tree_refused, tree_flat, tree_on, flat_count, part_first, first_shift, below_start, below_few, below_over, below_on, below_refused, below_done}
+use Rattle.model.proofs.Laws.FirstBlock.{part_first, first_shift}
+use Rattle.marks.proofs.Laws.{tree_refused, tree_flat, tree_on, flat_count, below_start, below_few, below_over, below_on, below_refused, below_done}
 use Rattle.marks.proofs.+claim_part.Goals.{then-child-ne0+in_ok-count, else-child-ne0}
 use Rattle.marks.proofs.+claim_part.Goals as goal
 

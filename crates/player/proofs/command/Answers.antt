@@ -10,10 +10,10 @@ returns-then-line-gt-LONGEST_LINE-clause-leaves c = leaves_as (commanded_long _ 
 
 pub returns-in_default-clause-leaves : goal.returns-in_default-clause-leaves
 returns-in_default-clause-leaves c = let a = c.args in
-    leaves_as (commanded_bad a.line.now a.image.now a.buffer.now a.page.now a.size a.ink.at c.if-line-gt-LONGEST_LINE.false false _ _ _ c.in_default.ensures.takes refl)
+    leaves_as (commanded_bad a.line.now a.image.now a.buffer.now a.page.now a.size a.ink.now.at c.if-line-gt-LONGEST_LINE.false false _ _ _ c.in_default.ensures.takes refl)
     (record { size = refl; good = refl; image = refl; buffer = refl; page = prints_none })
 
 pub returns-clause-leaves : goal.returns-clause-leaves
 returns-clause-leaves c = let a = c.args in
     let o = c.obey in
-    commanded_good a.line.now a.image.now a.buffer.now a.page.now a.size a.ink.at c.if-line-gt-LONGEST_LINE.false true _ _ _ c.in-Ok.ensures.takes c.in-Ok.asked o.result _ _ _ _ refl c.in-Ok.ensures.command_value c.read_line.auto.buffer o.ensures.leaves
+    commanded_good a.line.now a.image.now a.buffer.now a.page.now a.size a.ink.now.at c.if-line-gt-LONGEST_LINE.false true _ _ _ c.in-Ok.ensures.takes c.in-Ok.asked o.result _ _ _ _ _ refl c.in-Ok.ensures.command_value c.read_line.auto.buffer o.ensures.leaves

@@ -17,13 +17,13 @@ returns-then-is_other c =
     let q = a.name.now in
     entry_duplicate l a.home a.place a.entry (view q) (length q) (found_other (view l) q a.home a.place c.requires.1.counted _ _ c.find_in-found.ensures c.is_other.ensures ∙ c.if-is_other.true)
 
-pub returns-then-not-may_rename : goal.returns-then-not-may_rename
-returns-then-not-may_rename c =
+pub returns-then-not-allows : goal.returns-then-not-allows
+returns-then-not-allows c =
     let a = c.args in
     let l = a.img.now in
     let q = a.name.now in
     entry_locked l a.home a.place a.entry (view q) (length q) (found_other (view l) q a.home a.place c.requires.1.counted _ _ c.find_in-found.ensures c.is_other.ensures ∙ c.if-is_other.false)
-    (sym c.may_rename.ensures ∙ c.if-not-may_rename.true)
+    (sym c.allows.ensures ∙ c.if-not-allows.true)
 
 pub put_names-requires : goal.put_names-requires
 put_names-requires c =
@@ -48,7 +48,7 @@ returns c =
     let start = c.slot_at-start in
     let backed = c.backed_up in
     entry_done l a.home a.place a.entry (view q) (length q) _ (found_other (view l) q a.home a.place c.requires.1.counted _ _ c.find_in-found.ensures c.is_other.ensures ∙ c.if-is_other.false)
-    (sym c.may_rename.ensures ∙ c.if-not-may_rename.false)
+    (sym c.allows.ensures ∙ c.if-not-allows.false)
     (c.put_byte.auto.img ∙ c.put_names.auto.img)
     (c.put_byte.ensures
     ∙ ap (λ f. put f (start.result + 0x1E) backed.result) c.put_names.ensures

@@ -14,7 +14,7 @@ loop-form-preserved c =
     let l = c.loop-form in
     let t = zip_turn a.forms.now a.values.now l.yielded c.into_iter-form-iterator.result l.form-iterator c.next.new.self _ (cc) (cc) l.yielded_by _ c.in-Some.is c.next.ensures.steps in
     let n = length_push l.yielded (c.in-Some.form, c.in-Some.value) in
-    (omega arith, rw n (emit_rest _ _ _ (fields_next (length a.forms.now) (length l.yielded) t.0 (view a.forms.now) (view a.values.now)) (rw (t.2 0, t.3 0) at c.put_field-now.ensures) l.invariant.1))
+    (omega arith, rw n (emit_rest _ _ _ (fields_next (length a.forms.now) (length l.yielded) t.0 (view a.forms.now) (view a.values.now)) (rw (t.2 0, t.3 0) at c.put_field.ensures) l.invariant.1))
 
 pub returns : goal.returns
 returns c =

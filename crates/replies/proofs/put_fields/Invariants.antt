@@ -10,4 +10,4 @@ use Rattle.replies.proofs.put_fields.Given as goal
 abbrev pub invariant-loop-form : goal.invariant-loop-form
 invariant-loop-form l =
     (length l.page ≡ length l.initial.page)
-    × (emit (fields_text (view l.forms) (view l.values) (length l.yielded) (length l.forms - length l.yielded)) (sheet l.now l.page) ≡ emit (fields_text (view l.forms) (view l.values) 0 (length l.forms)) (sheet l.initial.now l.initial.page))
+    × (emit (fields_text (view l.forms) (view l.values) (length l.yielded) (length l.forms - length l.yielded)) (sheet l.ink l.page) ≡ emit (fields_text (view l.forms) (view l.values) 0 (length l.forms)) (sheet l.initial.ink l.initial.page))

@@ -10,4 +10,4 @@ use Rattle.replies.proofs.put_hex.Given as goal
 abbrev pub invariant-loop-byte : goal.invariant-loop-byte
 invariant-loop-byte l =
     (length l.page ≡ length l.initial.page)
-    × (emit (hex_text (view l.run) l.byte-index (length l.run - l.byte-index)) (sheet l.now l.page) ≡ emit (hex_text (view l.run) 0 (length l.run)) (sheet l.initial.now l.initial.page))
+    × (emit (hex_text (view l.run) l.byte-index (length l.run - l.byte-index)) (sheet l.ink l.page) ≡ emit (hex_text (view l.run) 0 (length l.run)) (sheet l.initial.ink l.initial.page))

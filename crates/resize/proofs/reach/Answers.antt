@@ -28,6 +28,6 @@ returns c =
     let v = view a.img.now in
     let to = c.height_for-to.result in record {
       img_after = c.shrink.ensures.img_after
-          ∙ resized_by a.n v a.height a.key a.eof a.end (omega arith) to c.span_of-blocks.result c.height_for-to.ensures.0 c.span_of-blocks.ensures;
+          ∙ resized_by a.n v a.height a.key a.eof a.end (omega arith) to c.span_of.result c.height_for-to.ensures.0 c.span_of.ensures;
       value = c.shrink.ensures.value ∙ key_by a.n v a.height a.key a.eof a.end (omega arith) to c.height_for-to.ensures.0;
     }

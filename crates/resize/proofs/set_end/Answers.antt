@@ -22,7 +22,7 @@ pub reach-new_key-requires : goal.reach-new_key-requires
 reach-new_key-requires c =
     let p = c.requires in
     let H = p.img_len.3 in
-    let tall = c.height_of-height.ensures in record { img_len = (p.img_len.0, tall ∙ held_tall H, held_eof H, p.img_len.1, rw (tall, c.key_of-key.ensures) (held_fit H)); height_bound = rw (tall, ← p.free_value.0) p.free_value.1 }
+    let tall = p.height_value in record { img_len = (p.img_len.0, tall ∙ held_tall H, held_eof H, p.img_len.1, rw (tall, c.key_of-key.ensures) (held_fit H)); height_bound = rw (tall, ← p.free_value.0) p.free_value.1 }
 
 pub note-requires : goal.note-requires
 note-requires c =
@@ -37,7 +37,7 @@ note-requires c =
         omega (arith, p.img_len.0, c.slot_at-at.ensures),
         c.height_for-new_height.ensures.1,
       );
-      n_bound = room_left H a.eof p.img_len.1 a.free p.free_value.0 p.free_value.1 c.height_of-height.result c.key_of-key.result c.height_of-height.ensures c.key_of-key.ensures _ _ c.reach-new_key.ensures.img_after c.reach-new_key.ensures.value;
+      n_bound = room_left H a.eof p.img_len.1 a.free p.free_value.0 p.free_value.1 a.file.height c.key_of-key.result p.height_value c.key_of-key.ensures _ _ c.reach-new_key.ensures.img_after c.reach-new_key.ensures.value;
     }
 
 pub returns : goal.returns
@@ -45,4 +45,4 @@ returns c =
     let a = c.args in
     let p = c.requires in
     c.note.ensures
-    ∙ end_noted p.img_len.3 a.eof p.img_len.1 a.free p.free_value.0 p.free_value.1 c.height_of-height.result c.key_of-key.result c.height_of-height.ensures c.key_of-key.ensures _ _ c.reach-new_key.ensures.img_after c.reach-new_key.ensures.value c.slot_at-at.result c.height_for-new_height.result a.stamp c.slot_at-at.ensures c.height_for-new_height.ensures.0
+    ∙ end_noted p.img_len.3 a.eof p.img_len.1 a.free p.free_value.0 p.free_value.1 a.file.height c.key_of-key.result p.height_value c.key_of-key.ensures _ _ c.reach-new_key.ensures.img_after c.reach-new_key.ensures.value c.slot_at-at.result c.height_for-new_height.result a.stamp c.slot_at-at.ensures c.height_for-new_height.ensures.0

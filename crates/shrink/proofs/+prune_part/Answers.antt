@@ -5,7 +5,8 @@ use Prim.Native.Nat.{ℕ, suc, ◌+◌, ◌-◌, ◌*◌}
 use Rattle.model.specs.Bytes.{view}
 use Rattle.model.specs.Directory.{map_place}
 use Rattle.model.specs.SetEof.{pruned}
-use Rattle.shrink.proofs.Laws.{part_first, first_shift, trim_start, trim_over, part_fit, part_loose, trim_freed, trim_deeper, trim_end}
+use Rattle.model.proofs.Laws.FirstBlock.{part_first, first_shift}
+use Rattle.shrink.proofs.Laws.{trim_start, trim_over, part_fit, part_loose, trim_freed, trim_deeper, trim_end}
 use Rattle.shrink.proofs.+prune_part.Goals.{then-end-part, else-end-part}
 use Rattle.shrink.proofs.+prune_part.Goals as goal
 

@@ -1,8 +1,7 @@
--- `sound::sound_directory` and `sound::sound_entry`, which call each other, meet their contracts. An entry's measure is twice its levels, a directory's
+-- `sound::Volume::sound_directory` and `sound::Turn::sound_entry`, which call each other, meet their contracts. An entry's measure is twice its levels, a directory's
 -- one more. Both loops keep what is still to be claimed: the entries ahead.
 use Prim.Native.Nat.{◌+◌, ◌-◌, ◌*◌, ◌<◌, ◌≤◌}
 use mathlib.Core.Path.{◌≡◌}
-use lib.ListN.{length}
 use Rattle.model.specs.Bytes.{view, gather}
 use Rattle.claims.specs.Claims.{claim}
 use Rattle.marks.specs.Marks.{marks}
@@ -12,23 +11,22 @@ use Rattle.sound.specs.Work.{entry_work, list_work}
 use Rattle.sound.proofs.WorkLaws.{still}
 use Rattle.sound.proofs.+sound_directory_sound_entry.Given as goal
 
-abbrev pub decreases-sound_directory : goal.decreases-sound_directory
-decreases-sound_directory l = 2 * l.levels + 1
+abbrev pub decreases-Volume::sound_directory : goal.decreases-Volume::sound_directory
+decreases-Volume::sound_directory l = 2 * l.levels + 1
 
-abbrev pub decreases-sound_entry : goal.decreases-sound_entry
-decreases-sound_entry l = 2 * l.levels
+abbrev pub decreases-Turn::sound_entry : goal.decreases-Turn::sound_entry
+decreases-Turn::sound_entry l = 2 * l.self.now.levels
 
-abbrev pub invariant-sound_directory-loop-place : goal.invariant-sound_directory-loop-place
-invariant-sound_directory-loop-place l =
-    let v = view l.img in
-    (length l.seen ≡ 8192)
-    × (claim l.n (gather (entry_work v l.levels l.key) (ahead v l.place l.block (l.used - (l._done + 1)))) (marks l.seen)
-    ≡ claim l.n (gather (entry_work v l.levels l.key) (ahead v l.first l.block (l.used - (l._done + 1)))) (marks l.initial.seen))
+abbrev pub invariant-Volume::sound_directory-loop-place : goal.invariant-Volume::sound_directory-loop-place
+invariant-Volume::sound_directory-loop-place l =
+    let v = view l.self.img.now in
+    claim l.self.n (gather (entry_work v l.levels l.key) (ahead v l.place l.block (l.used - (l._done + 1)))) (marks l.seen)
+    ≡ claim l.self.n (gather (entry_work v l.levels l.key) (ahead v l.first l.block (l.used - (l._done + 1)))) (marks l.initial.seen)
 
-abbrev pub invariant-sound_directory-loop-done : goal.invariant-sound_directory-loop-done
-invariant-sound_directory-loop-done l =
-    let v = view l.img in
-    (length l.seen ≡ 8192)
-    × Coming v l.n l.block (l.used - l._done)
+abbrev pub invariant-Volume::sound_directory-loop-done : goal.invariant-Volume::sound_directory-loop-done
+invariant-Volume::sound_directory-loop-done l =
+    let v = view l.self.img.now in
+    Coming v l.self.n l.block (l.used - l._done)
     × (0 < l.used - l._done → l.first ≤ l.block * 13 + 13)
-    × (claim l.n (gather (entry_work v l.levels l.key) (still v l.first l.block (l.used - l._done))) (marks l.seen) ≡ claim l.n (list_work v l.levels l.key l.used) (marks l.initial.seen))
+    × (claim l.self.n (gather (entry_work v l.levels l.key) (still v l.first l.block (l.used - l._done))) (marks l.seen)
+    ≡ claim l.self.n (list_work v l.levels l.key l.used) (marks l.initial.seen))

@@ -17,12 +17,15 @@ returns-then-not-is_prodos c =
       | then-not-is_prodos-via-else-not-is_prodos+then-get_word-ne-MAP_BLOCK w ↦ sym (not_placed a.n v (λ e. w.if-get_word-ne-MAP_BLOCK.true (w.get_word.ensures.value ∙ e)))
     ]
 
-pub walk-requires : goal.walk-requires
-walk-requires c =
+pub invariant_of-walk : goal.invariant_of-walk
+invariant_of-walk c =
     let a = c.args in
     let p = c.requires in
     let prodos = sym c.is_prodos.ensures ∙ c.if-not-is_prodos.false in
-    (p.0, (p.2, p.1, volume_header_law a.n (view a.img.now) prodos), blank 8192)
+    record { readable = (p.0, (p.2, p.1, volume_header_law a.n (view a.img.now) prodos)) }
+
+pub walk-requires : goal.walk-requires
+walk-requires c = blank 8192
 
 pub returns : goal.returns
 returns c =

@@ -29,59 +29,59 @@ pub grow-new_key-requires : goal.grow-new_key-requires
 grow-new_key-requires c =
     let a = c.args in
     let H = c.requires.img_len.2 in
-    let hh = c.height_of-height.ensures in
+    let hh = c.requires.height_value in
     let kk = c.key_of-key.ensures in
     let v = view a.img.now in
-    let e : need v c.height_of-height.result c.key_of-key.result (height_for c.largest-end.result) (a.position / 512) (touched a.position (length a.buffer.now)) ≤ room map_place v a.n =
-    rw (hh, kk, c.largest-end.ensures, ← c.requires.free_value.0) c.requires.free_value.1 in record { img_len = (c.requires.img_len.0, hh ∙ held_tall H, held_eof H, rw (hh, kk) (held_fit H)); height_bound = keys_enough a.n v c.height_of-height.result c.key_of-key.result c.largest-end.result a.position (length a.buffer.now) e }
+    let e : need v a.file.height c.key_of-key.result (height_for c.largest-end.result) (a.position / 512) (touched a.position (length a.buffer.now)) ≤ room map_place v a.n =
+    rw (hh, kk, c.largest-end.ensures, ← c.requires.free_value.0) c.requires.free_value.1 in record { img_len = (c.requires.img_len.0, hh ∙ held_tall H, held_eof H, rw (hh, kk) (held_fit H)); height_bound = keys_enough a.n v a.file.height c.key_of-key.result c.largest-end.result a.position (length a.buffer.now) e }
 
 pub pour-requires : goal.pour-requires
 pour-requires c =
     let a = c.args in
     let H = c.requires.img_len.2 in
-    let hh = c.height_of-height.ensures in
+    let hh = c.requires.height_value in
     let kk = c.key_of-key.ensures in
     let v = view a.img.now in
     let b = a.buffer.now in
     let o : Octets (view b) = λ x. omega (arith, c.type_inv.buffer x) in
-    let e : need v c.height_of-height.result c.key_of-key.result (height_for c.largest-end.result) (a.position / 512) (touched a.position (length b)) ≤ room map_place v a.n =
+    let e : need v a.file.height c.key_of-key.result (height_for c.largest-end.result) (a.position / 512) (touched a.position (length b)) ≤ room map_place v a.n =
     rw (hh, kk, c.largest-end.ensures, ← c.requires.free_value.0) c.requires.free_value.1 in
-    let R : Ready a.n v (place_number a.place) H.home c.height_of-height.result = rw hh H.ready in
-    let W = works R c.key_of-key.result a.entry.eof c.largest-end.result a.position (length b) (view b) o c.requires.buffer_nonzero.0 c.requires.buffer_nonzero.1 (kk ∙ H.keyed) H.ends c.largest-end.ensures e a.stamp _ _ c.grow-new_key.ensures.img_after c.grow-new_key.ensures.value in record { img_len = (omega arith, c.requires.buffer_nonzero.0, c.requires.buffer_nonzero.1); pourable = rw c.height_for-goal.ensures.0 W.pourable }
+    let R : Ready a.n v (place_number a.file.place) H.home a.file.height = rw hh H.ready in
+    let W = works R c.key_of-key.result a.file.entry.eof c.largest-end.result a.position (length b) (view b) o c.requires.buffer_nonzero.0 c.requires.buffer_nonzero.1 (kk ∙ H.keyed) H.ends c.largest-end.ensures e a.stamp _ _ c.grow-new_key.ensures.img_after c.grow-new_key.ensures.value in record { img_len = (omega arith, c.requires.buffer_nonzero.0, c.requires.buffer_nonzero.1); pourable = rw c.height_for-goal.ensures.0 W.pourable }
 
 pub note-requires : goal.note-requires
 note-requires c =
     let a = c.args in
     let H = c.requires.img_len.2 in
-    let hh = c.height_of-height.ensures in
+    let hh = c.requires.height_value in
     let kk = c.key_of-key.ensures in
     let v = view a.img.now in
     let b = a.buffer.now in
     let o : Octets (view b) = λ x. omega (arith, c.type_inv.buffer x) in
-    let e : need v c.height_of-height.result c.key_of-key.result (height_for c.largest-end.result) (a.position / 512) (touched a.position (length b)) ≤ room map_place v a.n =
+    let e : need v a.file.height c.key_of-key.result (height_for c.largest-end.result) (a.position / 512) (touched a.position (length b)) ≤ room map_place v a.n =
     rw (hh, kk, c.largest-end.ensures, ← c.requires.free_value.0) c.requires.free_value.1 in
-    let R : Ready a.n v (place_number a.place) H.home c.height_of-height.result = rw hh H.ready in
-    let W = works R c.key_of-key.result a.entry.eof c.largest-end.result a.position (length b) (view b) o c.requires.buffer_nonzero.0 c.requires.buffer_nonzero.1 (kk ∙ H.keyed) H.ends c.largest-end.ensures e a.stamp _ _ c.grow-new_key.ensures.img_after c.grow-new_key.ensures.value in
+    let R : Ready a.n v (place_number a.file.place) H.home a.file.height = rw hh H.ready in
+    let W = works R c.key_of-key.result a.file.entry.eof c.largest-end.result a.position (length b) (view b) o c.requires.buffer_nonzero.0 c.requires.buffer_nonzero.1 (kk ∙ H.keyed) H.ends c.largest-end.ensures e a.stamp _ _ c.grow-new_key.ensures.img_after c.grow-new_key.ensures.value in
     let y = c.pour.ensures ∙ ap (λ g. poured map_place a.n (view c.grow-new_key.new.img) g c.grow-new_key.result (a.position / 512) (touched a.position (length b)) a.position (view b) (length b)) c.height_for-goal.ensures.0 in record { le_n = (R.sound.large, R.sound.small, omega (arith, c.requires.img_len.0), omega (arith, c.requires.img_len.0, c.slot_at-at.ensures, held_slot H), c.height_for-goal.ensures.1); n_bound = omega (arith, W.left _ y, H.uses, c.requires.free_value.0) }
 
 pub returns : goal.returns
 returns c =
     let a = c.args in
     let H = c.requires.img_len.2 in
-    let hh = c.height_of-height.ensures in
+    let hh = c.requires.height_value in
     let kk = c.key_of-key.ensures in
     let v = view a.img.now in
     let b = a.buffer.now in
     let o : Octets (view b) = λ x. omega (arith, c.type_inv.buffer x) in
-    let e : need v c.height_of-height.result c.key_of-key.result (height_for c.largest-end.result) (a.position / 512) (touched a.position (length b)) ≤ room map_place v a.n =
+    let e : need v a.file.height c.key_of-key.result (height_for c.largest-end.result) (a.position / 512) (touched a.position (length b)) ≤ room map_place v a.n =
     rw (hh, kk, c.largest-end.ensures, ← c.requires.free_value.0) c.requires.free_value.1 in
-    let R : Ready a.n v (place_number a.place) H.home c.height_of-height.result = rw hh H.ready in
-    let W = works R c.key_of-key.result a.entry.eof c.largest-end.result a.position (length b) (view b) o c.requires.buffer_nonzero.0 c.requires.buffer_nonzero.1 (kk ∙ H.keyed) H.ends c.largest-end.ensures e a.stamp _ _ c.grow-new_key.ensures.img_after c.grow-new_key.ensures.value in
+    let R : Ready a.n v (place_number a.file.place) H.home a.file.height = rw hh H.ready in
+    let W = works R c.key_of-key.result a.file.entry.eof c.largest-end.result a.position (length b) (view b) o c.requires.buffer_nonzero.0 c.requires.buffer_nonzero.1 (kk ∙ H.keyed) H.ends c.largest-end.ensures e a.stamp _ _ c.grow-new_key.ensures.img_after c.grow-new_key.ensures.value in
     let y = c.pour.ensures ∙ ap (λ g. poured map_place a.n (view c.grow-new_key.new.img) g c.grow-new_key.result (a.position / 512) (touched a.position (length b)) a.position (view b) (length b)) c.height_for-goal.ensures.0 in
-    let u : a.entry.used + a.free ≡ used v (place_number a.place) + room map_place v a.n = omega (arith, H.uses, c.requires.free_value.0) in
+    let u : a.file.entry.used + a.free ≡ used v (place_number a.file.place) + room map_place v a.n = omega (arith, H.uses, c.requires.free_value.0) in
     let z = view c.pour.new.img in
     c.note.ensures
     ∙ ap (λ m. noted_as z c.slot_at-at.result c.height_for-goal.result c.grow-new_key.result (m - room map_place z a.n) c.largest-end.result a.stamp) u
-    ∙ ap (λ m. noted_as z m c.height_for-goal.result c.grow-new_key.result (used v (place_number a.place) + room map_place v a.n - room map_place z a.n) c.largest-end.result a.stamp) c.slot_at-at.ensures
-    ∙ ap (λ m. noted_as z (at (place_number a.place)) m c.grow-new_key.result (used v (place_number a.place) + room map_place v a.n - room map_place z a.n) c.largest-end.result a.stamp) c.height_for-goal.ensures.0
+    ∙ ap (λ m. noted_as z m c.height_for-goal.result c.grow-new_key.result (used v (place_number a.file.place) + room map_place v a.n - room map_place z a.n) c.largest-end.result a.stamp) c.slot_at-at.ensures
+    ∙ ap (λ m. noted_as z (at (place_number a.file.place)) m c.grow-new_key.result (used v (place_number a.file.place) + room map_place v a.n - room map_place z a.n) c.largest-end.result a.stamp) c.height_for-goal.ensures.0
     ∙ W.all _ y a.stamp
