@@ -19,6 +19,11 @@ use Rattle.model.proofs.Laws.Written.{wrote_way}
 use Rattle.growth.specs.Growth.{grown_from, grown_key_from, noted_as}
 use Rattle.growth.proofs.Laws.{grown_at, grown_key_at, room_after, noted_after}
 use Rattle.pour.specs.Pouring.{Pourable}
+use Rattle.model.specs.Kinds.{key_of}
+use Rattle.model.specs.declared.Entry.{Entry}
+use Rattle.opening.specs.Sorts.{height_of}
+use Rattle.held.specs.Held.{Held}
+use Rattle.write.specs.Writing.{entry_need}
 
 -- the new height is no lower, and the new keys are among the need
 pub goal_tall : (o e h pos size : ℕ) → h ≡ height_for o → e ≡ max o (pos + size) → h ≤ height_for e
@@ -103,3 +108,13 @@ works {n} {v} {s} {d} {h} R k o e pos size buffer octets some most ek eo ee enou
     let tall : height (sort v s) ≡ h = ap height R.kind in
     rw (ew, el, grown_as n v s h k o e tall ek eo, key_as n v s h k o e tall ek eo, ends)
     (work R pos size buffer octets some most (rw (ek, ends) at enough) t)
+
+-- the same by the decoded entry
+pub held_works : {n : ℕ} {v : Bytes} {s : ℕ} {x : Entry} (H : Held n v s x) (h k e pos size free : ℕ) (buffer : Bytes) → Octets buffer → 1 ≤ size → pos + size < 16777216
+    → h ≡ height_of x.kind → k ≡ key_of x.kind → e ≡ max x.eof (pos + size) → free ≡ room map_place v n → entry_need v x pos size ≤ free → Stamp
+    → (w : Bytes) (l : ℕ) → w ≡ grown_from map_place n v h k x.eof e → l ≡ grown_key_from map_place n v h k x.eof e
+    → Works n v s e pos buffer size w l
+held_works {n} {v} {s} {x} H h k e pos size free buffer octets some most eh ek ee fr enough t w l ew el =
+    let R : Ready n v s H.home h = rw eh H.ready in
+    let short : need v h k (height_for e) (pos / 512) (touched pos size) ≤ room map_place v n = rw (eh, ek, ee, ← fr) enough in
+    works R k x.eof e pos size buffer octets some most (ek ∙ H.keyed) H.ends ee short t w l ew el
