@@ -143,3 +143,25 @@ shows all offset old new r p =
       size = ap (λ t. t.size) p.same ∙ l.size;
       bytes = ap (λ t. t.bytes) p.same ∙ l.bytes ∙ ap (λ j. paste (view old) 0 j (from (view all) offset)) (omega arith);
     }
+
+-- emitting keeps the page's size
+inked_size : (x : ℕ) (s : Sheet) → (inked x s).size ≡ s.size
+unfolding inked
+inked_size x s = go (ltb 0 s.skip) (ltb s.at s.size)
+  where
+    go : (b c : Bool)
+        → (elim b as (λ _. Sheet) [
+          | true ↦ record { skip = s.skip - 1; at = s.at; size = s.size; bytes = s.bytes }
+          | false ↦ elim c as (λ _. Sheet) [ true ↦ record { skip = s.skip; at = s.at + 1; size = s.size; bytes = put s.bytes s.at x } | false ↦ s ]
+        ]).size ≡ s.size
+    go true c = refl
+    go false true = refl
+    go false false = refl
+
+emit_size : (xs : List ℕ) (s : Sheet) → (emit xs s).size ≡ s.size
+unfolding emit
+emit_size [] s = refl
+emit_size (x ∷ xs) s = emit_size xs (inked x s) ∙ inked_size x s
+
+pub same_size : {xs : List ℕ} {s t : Sheet} → Prints xs s t → t.size ≡ s.size
+same_size {xs} {s} p = ap (λ t. t.size) p.same ∙ emit_size xs s

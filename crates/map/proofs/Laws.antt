@@ -3,7 +3,7 @@ use mathlib.Core.Path.{◌≡◌, refl, sym, ap, ◌∙◌}
 use mathlib.Core.List.{List, ◌∷◌}
 use mathlib.Core.Bool.{Bool, true, false, not, cond}
 use Prim.Native.Nat.{ℕ, zero, suc, ◌+◌, ◌-◌, ◌*◌, ◌/◌, ◌%◌, ◌^◌, ◌≤◌, ◌<◌}
-use native.Mathlib.Nat.{mul_comm}
+use native.Mathlib.Nat.{mul_comm, div-eq_of_lt}
 use native.Mathlib.Numerals.{add-one}
 use native.Mathlib.Omega.{arith}
 use lib.Count.{ones}
@@ -67,6 +67,18 @@ module _ (x i : ℕ) where
   clear_masked h l =
       let e : bit_and x (255 - weight i) + bit_and x (weight i) ≡ x = rw (and_comm x (255 - weight i), and_comm x (weight i)) (and-not 8 (weight i) x (omega (arith, (shifted i l).1)) h) in
       omega (arith, e, masked, mul_comm (weight i) (bit x i))
+
+  -- a byte that has a bit is as large as its weight
+  pub weighs : eqb (bit x i) 1 ≡ true → weight i ≤ x
+  unfolding bit
+  weighs e = go (ltb x (weight i)) refl
+    where
+      go : (t : Bool) → ltb x (weight i) ≡ t → weight i ≤ x
+      go false q = ltb-false _ _ q
+      go true q =
+          let z : x / weight i ≡ 0 = div-eq_of_lt (ltb-true _ _ q) in
+          let o = eqb-true (x / weight i % 2) 1 e in
+          absurd (omega arith)
 
 -- one block more
 module _ (m : ℕ) (v : Bytes) (b : ℕ) where

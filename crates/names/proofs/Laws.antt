@@ -2,15 +2,24 @@
 use mathlib.Core.Path.{◌≡◌, refl, sym, ◌∙◌}
 use mathlib.Core.Bool.{Bool, true, false}
 use mathlib.Core.List.{[]}
-use Prim.Native.Nat.{ℕ, zero, suc, ◌+◌, ◌<◌}
+use Prim.Native.Nat.{ℕ, zero, suc, ◌+◌, ◌-◌, ◌<◌}
 use native.Mathlib.Omega.{arith}
-use borrow.Author.Tests.{eq-eqb, ne_eqb}
-use Rattle.model.specs.Bytes.{Bytes}
+use borrow.Author.Tests.{eq-eqb, ne_eqb, lt-leb}
+use Rattle.model.specs.Bytes.{Bytes, equal_bytes, ◌and◌, within}
 use Rattle.model.specs.Names.{slash, name_byte, name_bytes, proper_parts}
+use Rattle.model.proofs.TestLaws.{and_off}
 use Rattle.model.proofs.ByteLaws.{at_or_off}
 pub use Rattle.model.proofs.TestLaws.{and_left, and_right}
-pub use Rattle.model.proofs.Laws.Spelling.{within_in, within_is as within_true}
+pub use Rattle.model.proofs.Laws.Spelling.{within_in, within_is as within_true, capital_small, capital_other}
 use Rattle.names.specs.Steps.{last_start}
+
+pub within_below : (low high x : ℕ) → x < low → within low high x ≡ false
+unfolding within ◌and◌
+within_below low high x p = rw (lt-leb low x p)
+
+pub within_above : (low high x : ℕ) → high < x → within low high x ≡ false
+unfolding within ◌and◌
+within_above low high x p = rw (lt-leb x high p, and_off)
 
 -- Every byte of a run is a letter, a digit or a dot, or one is none.
 module _ (p : Bytes) where
@@ -38,6 +47,22 @@ module _ (p : Bytes) where
   bytes_not a (suc k) (suc i) l h =
       let x : a + suc i ≡ a + 1 + i = omega arith in
       bytes_by a k (name_byte (p a)) refl (bytes_not (a + 1) k i (omega arith) (rw x at h))
+
+module _ (p : Bytes) (a : ℕ) where
+  pub bytes_more : (k m : ℕ) → k ≡ suc m → name_byte (p a) ≡ true → name_bytes p a k ≡ name_bytes p (a + 1) m
+  unfolding name_bytes
+  bytes_more k m e h = rw (e, h, name_bytes)
+
+-- runs of n bytes, of which i were found equal
+module _ (f g : Bytes) (a b n : ℕ) where
+  pub equal_more : (i : ℕ) → i < n → f (a + i) ≡ g (b + i)
+      → equal_bytes f (a + i) g (b + i) (n - i) ≡ equal_bytes f (a + (i + 1)) g (b + (i + 1)) (n - (i + 1))
+  unfolding equal_bytes
+  equal_more i l h =
+      let e : n - i ≡ suc (n - (i + 1)) = omega arith in
+      let x : a + (i + 1) ≡ a + i + 1 = omega arith in
+      let y : b + (i + 1) ≡ b + i + 1 = omega arith in
+      rw (x, y, e, eq-eqb _ _ h, equal_bytes)
 
 module _ (p : Bytes) where
   pub last_here : (n m : ℕ) → n ≡ suc m → p m ≡ slash → last_start p n ≡ n

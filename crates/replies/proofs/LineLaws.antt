@@ -3,6 +3,7 @@ use Prim.Native.Nat.{ℕ, suc, ◌+◌, ◌-◌, ◌/◌, ◌%◌, ◌≤◌, �
 use mathlib.Core.Path.{◌≡◌}
 use mathlib.Core.List.{List, [], ◌∷◌, ◌++◌}
 use native.Mathlib.Omega.{arith}
+use lib.Bits.{bit_xor, xor_lt}
 use lib.ListN.{length}
 use mir.Syntax.{w32}
 use Rattle.std.specs.Int.{to_be_bytes}
@@ -15,6 +16,10 @@ use Rattle.model.specs.Refusals.{refusal_number}
 use Rattle.model.specs.declared.Refusal.{Refusal}
 use Rattle.model.proofs.RefusalLaws.{number_refuses}
 use Rattle.replies.specs.Lines.{field_text, fields_text, hex_text, mixed, digest_from, digest, digest_text, buffer_text, reply}
+
+-- An exclusive or with a byte stays below 2^32.
+pub xor_small : (h x : ℕ) → h < 4294967296 → x < 256 → bit_xor h x < 4294967296
+xor_small h x p q = xor_lt 32 h x p (omega arith)
 
 -- A digest of 32 bits is the hex digits of its four bytes.
 pub digest_hex : (h : ℕ) (bytes : List ℕ) → bytes ≡ to_be_bytes w32 h → h < 4294967296 → hex_text (view bytes) 0 (length bytes) ≡ digest_text h
