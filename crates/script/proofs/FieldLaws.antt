@@ -168,9 +168,13 @@ pub pair_high : (c d : ℕ) → None ≡ digit_value c → None ≡ pair_value c
 unfolding pair_value
 pair_high c d p = rw (← p, pair_value) refl
 
-pub pair_low : (c d x : ℕ) → Some x ≡ digit_value c → None ≡ digit_value d → None ≡ pair_value c d
+pub pair_low : (c d : ℕ) → None ≡ digit_value d → None ≡ pair_value c d
 unfolding pair_value
-pair_low c d x p q = rw (← p, ← q, pair_value) refl
+pair_low c d q = go (digit_value c) refl
+  where
+    go : (r : Option ℕ) → r ≡ digit_value c → None ≡ pair_value c d
+    go (Some x) p = rw (← p, ← q, pair_value) refl
+    go None p = pair_high c d p
 
 pub byte_two : (cs : List ℕ) → length cs ≡ 2 → byte_value cs ≡ pair_value (view cs 0) (view cs 1)
 unfolding byte_value
@@ -252,6 +256,14 @@ module _ (cs : List ℕ) (most : ℕ) where
   pub size_good : length cs % 2 ≡ 0 → length cs / 2 ≤ most → all_digits cs ≡ true → length cs / 2 ≤ largest → pairs_size cs most ≡ Some (length cs / 2)
   unfolding pairs_size ◌and◌
   size_good p q e l = rw (eq-eqb _ _ p, le-leb _ _ q, e, le-leb _ _ l, pairs_size)
+
+  -- at any length: half as many bytes, or none where no number is that large
+  pub size_even : length cs % 2 ≡ 0 → length cs / 2 ≤ most → all_digits cs ≡ true → pairs_size cs most ≡ at_most largest (Some (length cs / 2))
+  unfolding at_most
+  size_even p q e =
+      most_or_more (length cs / 2) largest
+      (λ l. rw (le-leb _ _ l, at_most) (size_good p q e l))
+      (λ l. rw (lt-leb _ _ l, at_most) (size_past l))
 
 -- bytes for themselves
 module _ (cs : List ℕ) where

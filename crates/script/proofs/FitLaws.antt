@@ -53,7 +53,7 @@ pair_most c d = go (digit_value c) (digit_value d) refl refl (digit_most c) (dig
   where
     go : (p q : Option ℕ) → p ≡ digit_value c → q ≡ digit_value d → Below 15 p → Below 15 q → Below 255 (pair_value c d)
     go None q e f a b = by_none 255 (sym (pair_high c d e))
-    go (Some x) None e f a b = by_none 255 (sym (pair_low c d x e f))
+    go (Some x) None e f a b = by_none 255 (sym (pair_low c d f))
     go (Some x) (Some y) e f a b = by_some 255 (16 * x + y) (sym (pair_good c d x y e f)) (omega arith)
 
 module _ (cs : List ℕ) where
