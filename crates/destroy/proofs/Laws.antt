@@ -37,7 +37,7 @@ use Rattle.directory.specs.declared.Home.{Home}
 use Rattle.directory.proofs.SlotLaws.{place_number_law, entry_used, entry_key}
 use Rattle.directory.proofs.AnswerLaws.{place_counted}
 use Rattle.opening.specs.Opened.{opened_by}
-use Rattle.opening.specs.Sorts.{data_height}
+use Rattle.opening.specs.Sorts.{height_of, data_height}
 use Rattle.opening.specs.declared.Opened.{Opened}
 use Rattle.opening.specs.declared.Opened.TheVariants as opened
 use Rattle.opening.proofs.VolumeLaws.{Fits}
@@ -46,6 +46,12 @@ use Rattle.opening.proofs.OpenedLaws.{opened_or, opened_first, Seen, refused, on
 use Rattle.release.specs.Loose.{Loose, tree}
 use Rattle.release.proofs.Laws.{tree_key}
 use Rattle.destroy.specs.Gone.{kind_blocks, entry_blocks, bare, may_go, entry_gone, entry_destroy, Goes}
+
+pub height_low : (K : Kind) → height_of K ≤ 3
+height_low (Seedling k) = omega arith
+height_low (Sapling k) = omega arith
+height_low (Tree k) = omega arith
+height_low (Directory k) = omega arith
 
 -- a directory's blocks are its chain, a data file's its tree
 module _ (K : Kind) (v : Bytes) (u k : ℕ) (keyed : k ≡ key_of K) where

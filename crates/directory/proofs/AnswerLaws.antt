@@ -20,7 +20,7 @@ use Rattle.model.specs.declared.Entry.{Entry}
 use Rattle.model.specs.declared.Place.{Place}
 use Rattle.model.proofs.Laws.Lookup.{directory_is}
 use Rattle.directory.specs.Slots.{place_number, place_of, Counted, entry_of}
-use Rattle.directory.specs.Search.{Each, Readable, Searchable, listed, vacancy_at}
+use Rattle.directory.specs.Search.{Each, Readable, Searchable, listed, found_at, vacancy_at}
 use Rattle.directory.specs.Lookup.{Reached, top, below, Sane, home_of, looked_as}
 use Rattle.directory.specs.declared.Home.{Home}
 use Rattle.directory.specs.declared.Looked.{Looked}
@@ -37,6 +37,19 @@ place_is : (s : ℕ) (l : Place) → place_of s ≡ l → s ≡ place_number l
 place_is s l e = sym (place_number_law s) ∙ ap place_number e
 
 -- Answers of searches.
+pub found_some : (v : Bytes) (o : Option ℕ) (l : Place) (e : Entry) → found_at v o ≡ Some (l, e)
+    → (o ≡ some (place_number l)) × (e ≡ entry_of v (at (place_number l))) × Counted l
+found_some v none l e h = never (cc)
+found_some v (some s) l e h =
+    let w : ◌≡◌ {A = Place × Entry} (place_of s, entry_of v (at s)) (l, e) = cc in
+    let p : place_of s ≡ l = ap (λ (x : Place × Entry). x.0) w in
+    let q : s ≡ place_number l = place_is s l p in
+    (ap some q, sym (ap (λ (x : Place × Entry). x.1) w) ∙ ap (λ t. entry_of v (at t)) q, place_counted s l p)
+
+pub found_none : (v : Bytes) (o : Option ℕ) → found_at v o ≡ None → o ≡ none
+found_none v none h = refl
+found_none v (some s) h = never (cc)
+
 pub vacancy_some : (o : Option ℕ) (l : Place) → vacancy_at o ≡ Some l → (o ≡ some (place_number l)) × Counted l
 vacancy_some none l h = never (cc)
 vacancy_some (some s) l h = let p : place_of s ≡ l = cc in (ap some (place_is s l p), place_counted s l p)

@@ -3,7 +3,7 @@ use mathlib.Core.Path.{◌≡◌, refl, sym, ap, subst, ◌∙◌}
 use mathlib.Core.Bool.{Bool, true, false}
 use mathlib.Core.List.Memᴰ
 use mathlib.Core.List.{List, [], ◌∷◌, ◌++◌, Memᴰ}
-use mathlib.Core.Option.{some}
+use mathlib.Core.Option.{Option, some}
 use Rattle.std.specs.Prelude as std
 use Rattle.std.specs.Prelude.{Some, None, is_some}
 use Prim.Native.Nat.{ℕ, zero, suc, ◌+◌, ◌-◌, ◌≤◌, ◌<◌}
@@ -141,6 +141,11 @@ module _ (b t : ℕ) where
   pub slots_done : 13 < t → slots_from b t ≡ []
   unfolding run
   slots_done h = let e : 14 - t ≡ 0 = omega arith in ap (run (place b t)) e
+
+-- no slot is left
+pub seek_none : (v p : Bytes) (x : Part) (all : Option ℕ) (ss : List ℕ) → ss ≡ [] → all ≡ seek v p x ss → None ≡ found_at v all
+unfolding seek
+seek_none v p x all ss e h = sym (ap (found_at v) (h ∙ ap (seek v p x) e))
 
 run_among : (a c i : ℕ) → i < c → Memᴰ (a + i) (run a c)
 unfolding run

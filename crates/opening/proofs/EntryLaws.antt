@@ -69,6 +69,28 @@ plain (Sapling b) h e = (refl, cc)
 plain (Tree b) h e = (refl, cc)
 plain (Directory b) h e = absurd (cc)
 
+-- the two ways to tell a height agree: none is 3
+pub height_some : (k : Kind) (h : ℕ) → (data_height k ≡ Some h → (h ≡ height_of k) × (h < 3)) × (h ≡ height_of k → h < 3 → data_height k ≡ Some h)
+height_some (Seedling b) h = (λ e. let z : h ≡ 0 = cc in (z, omega arith), λ z l. ap Some (sym z))
+height_some (Sapling b) h = (λ e. let z : h ≡ 1 = cc in (z, omega arith), λ z l. ap Some (sym z))
+height_some (Tree b) h = (λ e. let z : h ≡ 2 = cc in (z, omega arith), λ z l. ap Some (sym z))
+height_some (Directory b) h = (λ e. absurd (cc), λ z l. absurd (omega arith))
+
+pub height_none : (k : Kind) → (data_height k ≡ None → height_of k ≡ 3) × (height_of k ≡ 3 → data_height k ≡ None)
+height_none (Seedling b) = (λ e. absurd (cc), λ e. absurd (omega arith))
+height_none (Sapling b) = (λ e. absurd (cc), λ e. absurd (omega arith))
+height_none (Tree b) = (λ e. absurd (cc), λ e. absurd (omega arith))
+height_none (Directory b) = (λ e. refl, λ e. refl)
+
+pub folder_height : (k : Kind) → height_of k ≡ 3 → is_folder k ≡ true
+folder_height k e = folder k ((height_none k).1 e)
+
+pub no_folder : (k : Kind) → (height_of k ≡ 3 → ⊥) → is_folder k ≡ false
+no_folder (Seedling b) e = refl
+no_folder (Sapling b) e = refl
+no_folder (Tree b) e = refl
+no_folder (Directory b) e = absurd (e refl)
+
 -- a proper kind and the sort it was read from
 pub folder_sort : (K : Sort) (k : ℕ) → is_active K ≡ true → (K ≡ improper → ⊥) → is_folder (kind_of K k) ≡ is_directory K
 folder_sort inactive k a p = let z : ◌≡◌ {A = ℕ} 0 1 = cc in absurd (omega arith)

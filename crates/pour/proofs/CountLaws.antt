@@ -13,6 +13,11 @@ use Rattle.model.specs.Bytes.{Bytes, sum, run, is, one_if}
 use Rattle.model.specs.File.{pointer, data_block}
 use Rattle.model.specs.Grow.{lacks_block, lacks_index}
 use Rattle.model.proofs.BitLaws.{is_yes}
+use Rattle.facts.specs.Reached.{Deep}
+
+pub deep_key : (n : ℕ) (v : Bytes) (h k : ℕ) → Deep n v h k → k < n
+deep_key n v zero k d = d
+deep_key n v (suc h) k d = d.0
 
 -- A test that is told as 1 or 0, and how many of a range pass it.
 pub test_of : (t : Bool) (n : ℕ) → one_if t ≡ n → t ≡ eqb n 1
@@ -33,6 +38,15 @@ sum_most : (f : ℕ → ℕ) → ((q : ℕ) → f q ≤ 1) → (a c : ℕ) → s
 unfolding sum run
 sum_most f m a zero = omega arith
 sum_most f m a (suc c) = omega (arith, m a, sum_most f m (suc a) c)
+
+module _ (f : ℕ → ℕ) (q end : ℕ) where
+  pub sum_step : q < end → sum f (run q (end - q)) ≡ f q + sum f (run (q + 1) (end - (q + 1)))
+  unfolding run sum
+  sum_step l = let e : end - q ≡ suc (end - (q + 1)) = omega arith in rw (e, add-one q, run, sum) refl
+
+  pub sum_end : end ≤ q → sum f (run q (end - q)) ≡ 0
+  unfolding run sum
+  sum_end l = let e : end - q ≡ 0 = omega arith in rw (e, run, sum) refl
 
 pub counted : (f : ℕ → ℕ) → ((q : ℕ) → f q ≤ 1) → (a c r : ℕ) → r ≡ length (filter (λ q. eqb (f q) 1) (range_with_len a c)) → (r ≡ sum f (run a c)) × (r ≤ c)
 counted f m a c r e = (e ∙ count_is f m a c, omega (arith, count_is f m a c, sum_most f m a c))

@@ -190,11 +190,11 @@ module _ (n : ℕ) (v : Bytes) (h k f : ℕ) where
       limb_same : limb_at w h k i ≡ limb_at v h k i
       limb_same = limb_kept n v w G.same h k i l here
 
-      limb_loose : Loose n (limb_at w h k i)
-      limb_loose = rw limb_same (loose_tail n k (limb_at v h k i) here)
+      pub giving_limb : Loose n (k ∷ limb_at w h k i)
+      giving_limb = rw limb_same here
 
-      limb_given : (w' : Bytes) → w' ≡ given_all map_place w (limb_at w h k i) → Giving n v h k f w' (i + 1)
-      limb_given w' e =
+      pub giving_on_limb : (w' : Bytes) → w' ≡ given_all map_place w (limb_at w h k i) → Giving n v h k f w' (i + 1)
+      giving_on_limb w' e =
           let e' : w' ≡ given_all map_place w (limb_at v h k i) = e ∙ ap (given_all map_place w) limb_same in
           let kept = kept_all n w (limb_at v h k i) (loose_left n (limb_at v h k i) (below v h k (i + 1)) both) in
           record {
@@ -208,13 +208,13 @@ module _ (n : ℕ) (v : Bytes) (h k f : ℕ) where
       module _ (p : ℕ) (is_pointer : p ≡ pointer w k i) where
         pub giving_hole : p ≡ 0 → Giving n v h k f w (i + 1)
         unfolding given_all
-        giving_hole z = limb_given w (sym (ap (given_all map_place w) (limb_hole w h k i p is_pointer z)))
+        giving_hole z = giving_on_limb w (sym (ap (given_all map_place w) (limb_hole w h k i p is_pointer z)))
 
         pub giving_tree : (p ≡ 0 → ⊥) → Loose n (tree w h p)
-        giving_tree z = rw (limb_held w h k i p is_pointer z) at limb_loose
+        giving_tree z = rw (limb_held w h k i p is_pointer z) at (loose_tail n k (limb_at w h k i) giving_limb)
 
         pub giving_on : (p ≡ 0 → ⊥) → (w' : Bytes) → w' ≡ given_all map_place w (tree w h p) → Giving n v h k f w' (i + 1)
-        giving_on z w' e = limb_given w' (e ∙ sym (ap (given_all map_place w) (limb_held w h k i p is_pointer z)))
+        giving_on z w' e = giving_on_limb w' (e ∙ sym (ap (given_all map_place w) (limb_held w h k i p is_pointer z)))
 
 -- A block, then what lies below it.
 module _ (n : ℕ) (v : Bytes) (h k : ℕ) (f : Loose n (tree v (suc h) k)) (w : Bytes) (gave : w ≡ given map_place v k) where
