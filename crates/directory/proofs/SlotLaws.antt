@@ -69,7 +69,7 @@ module _ (f v : Bytes) (a : ℕ) (lent : Agree 39 f (from v a)) where
   long_lent : (i : ℕ) → i + 2 < 39 → long f i ≡ long v (a + i)
   long_lent i h = long_agree 39 f (from v a) i lent h ∙ long_from v a i
 
-  stamp_lent : (i : ℕ) → i + 3 < 39 → stamp_at f i ≡ stamp_at v (a + i)
+  pub stamp_lent : (i : ℕ) → i + 3 < 39 → stamp_at f i ≡ stamp_at v (a + i)
   unfolding stamp_at
   stamp_lent i h =
       let e : a + (i + 2) ≡ a + i + 2 = omega arith in

@@ -16,6 +16,8 @@ const MAP_BLOCK: usize = 6;
 // Where the volume's header begins: slot 1 of block 2.
 const VOLUME_HEADER: usize = 1028;
 
+const SLOT_SIZE: usize = 39;
+
 // Space: total and free blocks.
 pub fn space(img: &[u8]) -> Result<Space, Refusal>
     ensures { Measures (spaceCall (length img.now) (view img.now)) result }
@@ -49,7 +51,8 @@ fn volume_info(img: &[u8], n: usize) -> Info
     requires { (16 ≤ n) × (n ≤ 65535) × (length img.now ≡ n * 512) × (map_block (view img.now) ≡ map_place) }
     ensures { result ≡ volume_info n (view img.now) }
 {
-    let created = directory::stamp_at(img, VOLUME_HEADER + 0x18);
+    let header = &img[VOLUME_HEADER..VOLUME_HEADER + SLOT_SIZE];
+    let created = directory::stamp_at(header, 0x18);
     let used = n - map::free_blocks(img, MAP_BLOCK, n);
     Info {
         kind: 0xF,
