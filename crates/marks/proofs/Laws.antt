@@ -199,6 +199,10 @@ module _ (n : ℕ) (v : Bytes) (e h q k f : ℕ) (first : f ≡ first_below h q)
   unfolding below_claims
   tree_on p d z = ap (λ (h : ℕ). claim n (below_claims v e h q k) s') (sym z) ∙ on p
 
+pub flat_first : (h q : ℕ) → h ≡ 0 → q ≡ first_below h q
+unfolding first_below
+flat_first h q z = sym (ap (λ (h : ℕ). first_below h q) z)
+
 pub flat_count : (v : Bytes) (h q k : ℕ) → h ≡ 0 → 1 ≡ length (nodes v h q k)
 unfolding nodes
 flat_count v h q k z = sym (ap (λ (h : ℕ). length (nodes v h q k)) z)

@@ -62,10 +62,12 @@ fn claim_node(seen: &mut [u8], first: usize, end: usize, b: usize, n: usize) -> 
     first < end && claim_block(seen, b, n)
 }
 
-// Claims the block `key` of a file, which has a height and a number among those of its height, and what lies below it.
+// Claims the block `key` of a file, which has a height and a number among those of its height, and what lies below it. Apart from `claim_index`,
+// into which it is inlined: so a call is made for each index, and none for a data block, of which there are most.
 // A height is a number, as in `file`.
 // Seven parameters: those of `claim_tree`, and the number of the part.
-#[tactic(auto, using(crate::proofs::Laws::node_on_volume, model::proofs::Laws::FirstBlock::number_small))]
+#[cycle(claim_index_claim_part)]
+#[inline(always)]
 fn claim_part(
     img: &[u8],
     seen: &mut [u8],
@@ -79,11 +81,34 @@ fn claim_part(
     ensures seen_after { outcome (took_all result) (marks seen.new) ≡ claim n (tree_claims (view img.now) end height number key) (marks seen.old) }
     ensures result_value { took_all result ≡ true → took_count result ≡ length (nodes (view img.now) height number key) }
 {
-    if !claim_node(seen, number << (8 * height), end, key, n) {
+    if height != 0 {
+        return claim_index(img, seen, height, number, key, end, n);
+    }
+    if !claim_node(seen, number, end, key, n) {
         return None;
     }
-    if height == 0 {
-        return Some(1);
+    Some(1)
+}
+
+// The same for a block that has a height above 0: an index, or a master index.
+#[cycle(claim_index_claim_part)]
+#[tactic(auto, using(crate::proofs::Laws::node_on_volume, model::proofs::Laws::FirstBlock::number_small))]
+#[inline(never)]
+fn claim_index(
+    img: &[u8],
+    seen: &mut [u8],
+    height: usize,
+    number: usize,
+    key: usize,
+    end: usize,
+    n: usize,
+) -> Option<usize>
+    requires { (n ≤ 65535) × (length seen.old ≡ 8192) × (length img.now ≡ n * 512) × (height < 3) × (first_below height number < 65536) × (0 < height) }
+    ensures seen_after { outcome (took_all result) (marks seen.new) ≡ claim n (tree_claims (view img.now) end height number key) (marks seen.old) }
+    ensures result_value { took_all result ≡ true → took_count result ≡ length (nodes (view img.now) height number key) }
+{
+    if !claim_node(seen, number << (8 * height), end, key, n) {
+        return None;
     }
     let mut count = 1;
     for i in 0..256 {
